@@ -1,0 +1,3 @@
+-- The general laws that every proof cites, and the laws of the sizes.
+pub mod Laws
+pub mod Sizes

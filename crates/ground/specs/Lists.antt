@@ -1,0 +1,30 @@
+-- Lists made of a function of the index, and what holds below a number.
+use Prim.Native.Nat.{ℕ, zero, suc, _+_, _*_}
+use mathlib.Core.Bool.{Bool, false, _||_}
+use mathlib.Core.List.{List, [], _∷_, _++_}
+use lib.ListN.{take, drop}
+use Rattle.ground.specs.Choices.{if_then_else_}
+
+-- f i, f (i + 1) and on, n of them
+abbrev pub listed : {A : Type 0} → (ℕ → A) → ℕ → ℕ → List A
+listed f i zero = []
+listed f i (suc n) = f i ∷ listed f (i + 1) n
+
+-- of i, i + 1 and on, n of them, those at which f holds
+abbrev pub upFrom : (ℕ → Bool) → ℕ → ℕ → List ℕ
+upFrom f i zero = []
+upFrom f i (suc n) = let rest = upFrom f (i + 1) n in if f i then i ∷ rest else rest
+
+-- f holds somewhere below n
+abbrev pub anyBelow : (ℕ → Bool) → ℕ → Bool
+anyBelow f zero = false
+anyBelow f (suc n) = anyBelow f n || f n
+
+-- the number whose n lowest digits to the base 256 are f i, f (i + 1) and on: lowest byte first
+abbrev pub little : (ℕ → ℕ) → ℕ → ℕ → ℕ
+little f i zero = 0
+little f i (suc n) = f i + 256 * little f (i + 1) n
+
+-- a list with n of its elements, from place a on, replaced
+unfoldable pub replaced : List ℕ → ℕ → ℕ → List ℕ → List ℕ
+replaced xs a n ys = take a xs ++ (ys ++ drop (a + n) xs)
