@@ -1,0 +1,5 @@
+-- Which word is which load.
+pub mod Fields
+pub mod Dtypes
+pub mod Families
+pub mod Layouts
