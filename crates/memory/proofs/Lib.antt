@@ -1,0 +1,11 @@
+-- What the proofs of this crate share, and its laws.
+pub mod Tests
+pub mod Places
+pub mod Turns
+pub mod Moves
+pub mod Looks
+pub mod Alike
+pub mod Elements
+pub mod Takes
+pub mod Windows
+pub mod Unique

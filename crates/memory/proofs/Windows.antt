@@ -1,0 +1,62 @@
+-- The address window: of areas that are taken, the part from the address to the end of the area that holds it, and else an empty part.
+use mathlib.Core.Path.{_≡_, _∙_}
+use mathlib.Core.Bool.{true, false}
+use mathlib.Core.List.{List, []}
+use mathlib.Core.Logic.{⊎-elim}
+use Prim.Native.Nat.{ℕ, _-_}
+use native.Mathlib.Omega.{arith}
+use lib.ListN.{length, drop, length-drop}
+use lib.Seq.{take-all}
+use denote.Ref.{RefT}
+use Rattle.ground.proofs.Laws.{true-or-false}
+use Rattle.memory.specs.declared.Place.{Place}
+use Rattle.memory.specs.declared.Place.the-variants.{Flash, Ram, Nowhere}
+use Rattle.memory.specs.Areas.{Area, Areas, areasTaken, placeOf, placeIn}
+use Rattle.memory.specs.Windows.{PartOf, shownPlace, WindowPromise}
+use Rattle.memory.specs.Said.{Holds, Taken, Of, in-flash, in-ram}
+use Rattle.memory.proofs.Places.{holds-exactly, holds-not}
+use Rattle.memory.proofs.Takes.{taken-exactly}
+
+module _ (m : Areas) (a : ℕ) where
+  pub shown : (p : Place) → areasTaken m ≡ true → placeIn m a ≡ p → shownPlace m a ≡ p
+  unfolding shownPlace
+  shown p t e = rw (t, e)
+
+  pub not-shown : areasTaken m ≡ false → shownPlace m a ≡ Nowhere
+  unfolding shownPlace
+  not-shown t = rw t
+
+-- the slice that an area's bytes are lent in
+abbrev pub lentOf : {m : Areas} {r : Area} → Of m r → RefT (List ℕ) → RefT (List ℕ) → RefT (List ℕ)
+lentOf in-flash flash ram = flash
+lentOf in-ram flash ram = ram
+
+module _ (m : Areas) (a : ℕ) (flash ram p : RefT (List ℕ)) (w : WindowPromise m a flash ram p) where
+  -- the area that holds the address, once for flash and RAM
+  pub shows-rest : Taken m → {r : Area} (o : Of m r) → Holds r a → PartOf (lentOf o flash ram) p (a - r .start) (length (lentOf o flash ram .now))
+  unfolding placeOf
+  shows-rest t in-flash h =
+      let e : placeIn m a ≡ Flash (a - m .flash .start) = rw (holds-exactly (m .flash) a .1 h) in
+      rw (shown m a (Flash (a - m .flash .start)) (taken-exactly m .1 t) e) at w
+  shows-rest t in-ram h =
+      let e : placeIn m a ≡ Ram (a - m .ram .start) = rw (holds-not (m .flash) a .1 (λ k. t .share-none a k h), holds-exactly (m .ram) a .1 h) in
+      rw (shown m a (Ram (a - m .ram .start)) (taken-exactly m .1 t) e) at w
+
+  -- no such byte: an empty part, of flash
+  pub shows-none : (Holds (m .flash) a → ⊥) → (Holds (m .ram) a → ⊥) → PartOf flash p 0 0
+  unfolding placeOf
+  shows-none f r =
+      let e : placeIn m a ≡ Nowhere = rw (holds-not (m .flash) a .1 f, holds-not (m .ram) a .1 r) in
+      ⊎-elim (λ t. rw (shown m a Nowhere t e) at w) (λ t. rw (not-shown m a t) at w) (true-or-false (areasTaken m))
+
+  -- areas that are not taken: an empty part, of flash
+  pub shows-none-untaken : (Taken m → ⊥) → PartOf flash p 0 0
+  shows-none-untaken n =
+      ⊎-elim (λ t. absurd (n (taken-exactly m .0 t))) (λ t. rw (not-shown m a t) at w) (true-or-false (areasTaken m))
+
+-- what a part is: no byte where it ends at its start, and all bytes from its start on where it ends with the slice
+pub part-empty : (s p : RefT (List ℕ)) → PartOf s p 0 0 → p .now ≡ []
+part-empty s p h = h .bytes
+
+pub part-rest : (s p : RefT (List ℕ)) (k : ℕ) → PartOf s p k (length (s .now)) → p .now ≡ drop k (s .now)
+part-rest s p k h = h .bytes ∙ take-all (length (s .now) - k) (drop k (s .now)) (simp length-drop (omega arith))

@@ -1,0 +1,23 @@
+-- What reading an element finds, over any memory: a function from addresses to cells.
+use Prim.Native.Nat.{ℕ, zero, suc, _+_, _*_}
+use Rattle.memory.specs.Addresses.{plusOf}
+use Rattle.memory.specs.declared.Cell.{Cell}
+use Rattle.memory.specs.declared.Cell.the-variants as C
+use Rattle.memory.specs.declared.Reading.{Reading}
+use Rattle.memory.specs.declared.Reading.the-variants.{Value, Nowhere, Denied}
+
+-- a byte below what the bytes above it read as
+abbrev pub under : ℕ → Reading → Reading
+under b (Value v) = Value (b + 256 * v)
+under b (Nowhere x) = Nowhere x
+under b (Denied x) = Denied x
+
+abbrev pub onCell : Cell → ℕ → Reading → Reading
+onCell (C.Byte b) a rest = under b rest
+onCell C.Nowhere a rest = Nowhere (record { 0 = a })
+onCell C.Denied a rest = Denied (record { 0 = a })
+
+-- n bytes upward from a: their value, lowest byte first, or the first bad byte
+unfoldable pub readingOf : (ℕ → Cell) → ℕ → ℕ → Reading
+readingOf look a zero = Value 0
+readingOf look a (suc n) = onCell (look a) a (readingOf look (plusOf a 1) n)
