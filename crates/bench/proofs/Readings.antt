@@ -1,12 +1,12 @@
 -- The starred readings of the scope of work, as one statement over one table of cases, by computation.
-use Prim.Native.Nat.{zero, _+_, _-_, _^_}
+use Prim.Native.Nat.{_+_, _-_, _^_}
 use mathlib.Core.Path.{_≡_, refl}
 use mathlib.Core.Bool.{true}
 use mathlib.Core.List.{List, [], _∷_, _++_}
 use Rattle.ground.specs.Lists.{replaced}
 use Rattle.ground.specs.Sizes.{sizeOf}
 use Rattle.words.specs.Dtypes.{dtypes, dtypeOf}
-use Rattle.words.specs.Families.{families, readOf}
+use Rattle.words.specs.Families.{scalarOf, families, readOf}
 use Rattle.memory.specs.Addresses.{movedOf}
 use Rattle.memory.specs.Areas.{areaTaken, apart, areasTaken, holds, placeOf}
 use Rattle.memory.specs.Bytes.{judged, lookOf}
@@ -17,7 +17,7 @@ use Rattle.bench.specs.Plans.{planOf}
 use Rattle.bench.specs.Lanes.{governing, bitOf, laneActive, wanted, asked, takes, elementAt}
 use Rattle.bench.specs.Outcomes.{answersOf, surveyOf, extended, laneValue, registerByte, registerOf, baseAfter, scalarsAfter, benchAfter, outcomeOf}
 use Rattle.bench.specs.Steps.{checksStack, stackFails, refusals, preparedLoad, prepared, stepOf}
-use Rattle.bench.proofs.Cases.{Case, allRight, every, none, only, _≔_, sp, pc, old, zone, empty, page, on, sveOff, simdOff, f64mmAndSveOff, setUp, ran, faults, refuses, rising, eight, zeros, nines, copies, plain}
+use Rattle.bench.proofs.Cases.{Case, allRight, every, none, only, _≔_, sp, pc, zone, empty, page, on, sveOff, simdOff, f64mmAndSveOff, setUp, ran, faults, refuses, rising, eight, zeros, nines, copies, plain}
 
 -- the starred rows, in the order of the scope of work
 abbrev starred : List Case
@@ -107,5 +107,5 @@ abbrev pub table : List Case
 table = starred ++ ours
 
 pub readings : allRight table ≡ true
-unfolding replaced sizeOf dtypes dtypeOf families readOf movedOf areaTaken apart areasTaken holds placeOf judged lookOf readingOf accepted signed4 planOf governing bitOf laneActive wanted asked takes elementAt answersOf surveyOf extended laneValue registerByte registerOf baseAfter scalarsAfter benchAfter outcomeOf checksStack stackFails refusals preparedLoad prepared stepOf
+unfolding replaced sizeOf dtypes dtypeOf scalarOf families readOf movedOf areaTaken apart areasTaken holds placeOf judged lookOf readingOf accepted signed4 planOf governing bitOf laneActive wanted asked takes elementAt answersOf surveyOf extended laneValue registerByte registerOf baseAfter scalarsAfter benchAfter outcomeOf checksStack stackFails refusals preparedLoad prepared stepOf
 readings = refl

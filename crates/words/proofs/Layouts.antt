@@ -6,7 +6,7 @@ use mathlib.Core.Bool.{true, false, _||_, and-false}
 use native.Mathlib.Omega.{arith}
 use lib.Dec.{eqb}
 use Rattle.ground.specs.Choices.{if_then_else_}
-use Rattle.words.specs.Families.{families, readOf}
+use Rattle.words.specs.Families.{scalarOf, families, readOf}
 use Rattle.words.specs.Layouts.{word, ld1rKeep, ld1rPost, ld1rElement, ld1Immediate, ld1Scalar, ld1rqImmediate, ld1rqScalar, ld1roImmediate, ld1roScalar}
 use Rattle.words.specs.declared.Offset.the-variants.{Imm, Reg}
 use Rattle.words.specs.declared.Back.the-variants.{Keep, Post}
@@ -46,7 +46,7 @@ ld1-immediate dtype imm4 pg rn zt hdtype himm4 hpg hrn hzt =
 
 pub ld1-scalar : (dtype rm pg rn zt : ℕ) → dtype < 16 → rm < 32 → pg < 8 → rn < 32 → zt < 32
     → readOf (word (ld1Scalar dtype rm pg rn zt)) ≡ (if eqb rm 31 then Undefined else Is (Contiguous dtype (Reg rm) pg rn zt))
-unfolding readOf families
+unfolding readOf families scalarOf
 ld1-scalar dtype rm pg rn zt hdtype hrm hpg hrn hzt =
     let (a, (b, (c, (d, (e, (f, (g, _))))))) = laid (ld1Scalar dtype rm pg rn zt) (omega arith) in
     simp (halves _ 25 1 6 _ a .0, a, b, c, d, e, f, g, and-false)
@@ -61,7 +61,7 @@ ld1rq-immediate msz imm4 pg rn zt hmsz himm4 hpg hrn hzt =
 
 pub ld1rq-scalar : (msz rm pg rn zt : ℕ) → msz < 4 → rm < 32 → pg < 8 → rn < 32 → zt < 32
     → readOf (word (ld1rqScalar msz rm pg rn zt)) ≡ (if eqb rm 31 then Undefined else Is (Block false msz (Reg rm) pg rn zt))
-unfolding readOf families
+unfolding readOf families scalarOf
 ld1rq-scalar msz rm pg rn zt hmsz hrm hpg hrn hzt =
     let (a, (b, (c, (d, (e, (f, (g, (h, _)))))))) = laid (ld1rqScalar msz rm pg rn zt) (omega arith) in
     simp (halves _ 25 1 6 _ a .0, a, b, c, d, e, f, g, h, and-false)
@@ -76,7 +76,7 @@ ld1ro-immediate msz imm4 pg rn zt hmsz himm4 hpg hrn hzt =
 
 pub ld1ro-scalar : (msz rm pg rn zt : ℕ) → msz < 4 → rm < 32 → pg < 8 → rn < 32 → zt < 32
     → readOf (word (ld1roScalar msz rm pg rn zt)) ≡ (if eqb rm 31 then Undefined else Is (Block true msz (Reg rm) pg rn zt))
-unfolding readOf families
+unfolding readOf families scalarOf
 ld1ro-scalar msz rm pg rn zt hmsz hrm hpg hrn hzt =
     let (a, (b, (c, (d, (e, (f, (g, (h, _)))))))) = laid (ld1roScalar msz rm pg rn zt) (omega arith) in
     simp (halves _ 25 1 6 _ a .0, a, b, c, d, e, f, g, h, and-false)

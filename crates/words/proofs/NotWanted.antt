@@ -1,7 +1,7 @@
 -- "Not wanted: .. 128-bit lanes, prefetch": their words, as Arm's public pages lay them out, are outside, whatever their fields.
 use Prim.Native.Nat.{ℕ}
 use mathlib.Core.Path.{_≡_}
-use mathlib.Core.Bool.{false, and-false}
+use mathlib.Core.Bool.{and-false}
 use mathlib.Core.List.{List, [], _∷_}
 use Rattle.words.specs.Families.{families, readOf}
 use Rattle.words.specs.Layouts.{Piece, _▹_, word, Fit}
@@ -41,8 +41,8 @@ pub prefetch-immediate-outside : (imm6 msz pg rn op : ℕ) → Fit (prefetchImme
 unfolding readOf families
 prefetch-immediate-outside imm6 msz pg rn op fit =
     let w = word (prefetchImmediate imm6 msz pg rn op) in
-    let (a, (b, (c, (d, (e, (f, (g, (h, (i, (j, _)))))))))) = laid (prefetchImmediate imm6 msz pg rn op) fit in
-    simp (halves w 25 1 6 _ a .0, a, b, c, d, e, f, g, h, i, j)
+    let (a, (b, (c, (d, (e, (f, (g, (h, _)))))))) = laid (prefetchImmediate imm6 msz pg rn op) fit in
+    simp (halves w 25 1 6 _ a .0, a, b, c, d, e, f, g, h)
 
 -- .. and scalar
 abbrev prefetchScalar : ℕ → ℕ → ℕ → ℕ → ℕ → List Piece
@@ -53,5 +53,5 @@ pub prefetch-scalar-outside : (msz rm pg rn op : ℕ) → Fit (prefetchScalar ms
 unfolding readOf families
 prefetch-scalar-outside msz rm pg rn op fit =
     let w = word (prefetchScalar msz rm pg rn op) in
-    let (a, (b, (c, (d, (e, (f, (g, (h, (i, _))))))))) = laid (prefetchScalar msz rm pg rn op) fit in
-    simp (halves w 25 1 6 _ a .0, halves w 21 1 1 _ c .0, a, b, c, d, e, f, g, h, i)
+    let (a, (b, (c, (d, (e, (f, (g, _))))))) = laid (prefetchScalar msz rm pg rn op) fit in
+    simp (halves w 25 1 6 _ a .0, halves w 21 1 1 _ c .0, a, b, c, d, e, f, g)

@@ -1,12 +1,12 @@
 -- Every field of a load that was read is in range, so that a caller may index its registers and tables by them.
 use Prim.Native.Nat.{ℕ, _<_}
-use mathlib.Core.Bool.{Bool, false, _||_}
+use mathlib.Core.Bool.{Bool, _||_}
 use native.Mathlib.Omega.{arith}
 use lib.Dec.{eqb}
 use borrow.Author.Tests.{eqb-false}
 use Rattle.ground.proofs.Laws.{if-cases, first-each}
 use Rattle.words.specs.Fields.{bits}
-use Rattle.words.specs.Families.{replicateOf, byElementOf, contiguousOf, blockOf, immediateOf, scalarOf, families, readOf}
+use Rattle.words.specs.Families.{replicateOf, byElementOf, contiguousOf, blockOf, immediate, register, scalarOf, families, readOf}
 use Rattle.words.specs.declared.Offset.{Offset}
 use Rattle.words.specs.declared.Offset.the-variants.{Imm, Reg}
 use Rattle.words.specs.declared.Back.{Back}
@@ -48,14 +48,15 @@ module _ (w : ℕ) where
   element-in : InRange (byElementOf w)
   element-in = omega arith
 
-  module _ (load : Offset → Decoded) (h : (o : Offset) → OffsetInRange o → InRange (load o)) where
-    immediate-in : InRange (immediateOf w load)
-    immediate-in = h (Imm (bits w 19 16)) (omega arith)
+  immediate-in : OffsetInRange (immediate w)
+  immediate-in = omega arith
 
-    scalar-in : InRange (scalarOf w load)
-    scalar-in =
-        if-cases InRange (eqb (bits w 20 16) 31) Undefined (load (Reg (bits w 20 16))) (λ _. tt)
-        (λ t. let ne = eqb-false (bits w 20 16) 31 t in h (Reg (bits w 20 16)) (omega arith))
+  -- a scalar form that is defined has an Rm below 31
+  scalar-in : (load : Decoded) → (OffsetInRange (register w) → InRange load) → InRange (scalarOf w load)
+  unfolding scalarOf
+  scalar-in load h =
+      if-cases InRange (eqb (bits w 20 16) 31) Undefined load (λ _. tt)
+      (λ t. let ne = eqb-false (bits w 20 16) 31 t in h (omega arith))
 
   contiguous-in : (o : Offset) → OffsetInRange o → InRange (contiguousOf w o)
   contiguous-in o h = (omega arith, h, omega arith, omega arith, omega arith)

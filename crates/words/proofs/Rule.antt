@@ -1,10 +1,10 @@
 -- The dtype table against a rule that does not look at it: dh and dl are the two sizes, and where they fall, both are turned round and
 -- the sign is extended. A row that is wrong, or two that are swapped, are refused by `table`.
-use Prim.Native.Nat.{ℕ, zero, _-_, _/_, _%_, _≤_, _<_}
+use Prim.Native.Nat.{ℕ, _-_, _/_, _%_, _≤_, _<_}
 use mathlib.Core.Path.{_≡_, refl}
 use native.Mathlib.Nat.{zero-add}
 use lib.Dec.{leb}
-use lib.ListN.{length, getD}
+use lib.ListN.{length}
 use borrow.Author.Tests.{leb-true}
 use Rattle.ground.specs.Choices.{if_then_else_}
 use Rattle.ground.proofs.Laws.{all-at, getD-listed}

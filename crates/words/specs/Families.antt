@@ -30,13 +30,16 @@ contiguousOf w offset = Is (Contiguous (bits w 24 21) offset (bits w 12 10) (bit
 abbrev pub blockOf : Bool → ℕ → Offset → Decoded
 blockOf wide w offset = Is (Block wide (bits w 24 23) offset (bits w 12 10) (bits w 9 5) (bits w 4 0))
 
--- an immediate form
-abbrev pub immediateOf : ℕ → (Offset → Decoded) → Decoded
-immediateOf w load = load (Imm (bits w 19 16))
+-- the offset of an immediate form, and of a scalar one
+abbrev pub immediate : ℕ → Offset
+immediate w = Imm (bits w 19 16)
 
--- an SVE scalar form: Rm = 31 is undefined
-abbrev pub scalarOf : ℕ → (Offset → Decoded) → Decoded
-scalarOf w load = if eqb (bits w 20 16) 31 then Undefined else load (Reg (bits w 20 16))
+abbrev pub register : ℕ → Offset
+register w = Reg (bits w 20 16)
+
+-- the scalar form of a load: Rm = 31 is undefined
+unfoldable pub scalarOf : ℕ → Decoded → Decoded
+scalarOf w load = if eqb (bits w 20 16) 31 then Undefined else load
 
 -- the word has these bits at a row's fixed places
 pub record Fixed : Type 0 where
@@ -60,12 +63,12 @@ families w =
     (fits w (fixed 31 31 0b0 ∷ fixed 29 23 0b0011010 ∷ fixed 21 13 0b000000110 ∷ []) ⇒ replicateOf w Keep)
     ∷ (fits w (fixed 31 31 0b0 ∷ fixed 29 23 0b0011011 ∷ fixed 21 21 0b0 ∷ fixed 15 13 0b110 ∷ []) ⇒ replicateOf w (Post (bits w 20 16)))
     ∷ (fits w (fixed 31 25 0b1000010 ∷ fixed 22 22 0b1 ∷ fixed 15 15 0b1 ∷ []) ⇒ byElementOf w)
-    ∷ (fits w (fixed 31 25 0b1010010 ∷ fixed 20 20 0b0 ∷ fixed 15 13 0b101 ∷ []) ⇒ immediateOf w (contiguousOf w))
-    ∷ (fits w (fixed 31 25 0b1010010 ∷ fixed 15 13 0b010 ∷ []) ⇒ scalarOf w (contiguousOf w))
-    ∷ (fits w (fixed 31 25 0b1010010 ∷ fixed 22 20 0b000 ∷ fixed 15 13 0b001 ∷ []) ⇒ immediateOf w (blockOf false w))
-    ∷ (fits w (fixed 31 25 0b1010010 ∷ fixed 22 21 0b00 ∷ fixed 15 13 0b000 ∷ []) ⇒ scalarOf w (blockOf false w))
-    ∷ (fits w (fixed 31 25 0b1010010 ∷ fixed 22 20 0b010 ∷ fixed 15 13 0b001 ∷ []) ⇒ immediateOf w (blockOf true w))
-    ∷ (fits w (fixed 31 25 0b1010010 ∷ fixed 22 21 0b01 ∷ fixed 15 13 0b000 ∷ []) ⇒ scalarOf w (blockOf true w))
+    ∷ (fits w (fixed 31 25 0b1010010 ∷ fixed 20 20 0b0 ∷ fixed 15 13 0b101 ∷ []) ⇒ contiguousOf w (immediate w))
+    ∷ (fits w (fixed 31 25 0b1010010 ∷ fixed 15 13 0b010 ∷ []) ⇒ scalarOf w (contiguousOf w (register w)))
+    ∷ (fits w (fixed 31 25 0b1010010 ∷ fixed 22 20 0b000 ∷ fixed 15 13 0b001 ∷ []) ⇒ blockOf false w (immediate w))
+    ∷ (fits w (fixed 31 25 0b1010010 ∷ fixed 22 21 0b00 ∷ fixed 15 13 0b000 ∷ []) ⇒ scalarOf w (blockOf false w (register w)))
+    ∷ (fits w (fixed 31 25 0b1010010 ∷ fixed 22 20 0b010 ∷ fixed 15 13 0b001 ∷ []) ⇒ blockOf true w (immediate w))
+    ∷ (fits w (fixed 31 25 0b1010010 ∷ fixed 22 21 0b01 ∷ fixed 15 13 0b000 ∷ []) ⇒ scalarOf w (blockOf true w (register w)))
     ∷ []
 
 -- what a word is: outside where no row fits

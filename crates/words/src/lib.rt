@@ -2,7 +2,7 @@
 // A field word<hi:lo> is written word / 2^lo % 2^(hi - lo + 1), the lowest too, as its definition is.
 ghost use mathlib.Core.Path.{_≡_};
 ghost use mathlib.Core.Bool.{true, false};
-ghost use Rattle.words.specs.Families.{replicateOf, byElementOf, contiguousOf, blockOf, immediateOf, scalarOf, readOf};
+ghost use Rattle.words.specs.Families.{replicateOf, byElementOf, contiguousOf, blockOf, scalarOf, readOf};
 
 // What an SVE load adds to its base: a field of four bits, signed, that counts blocks; or a scalar register.
 pub enum Offset {
@@ -108,39 +108,29 @@ fn block(wide: bool, word: u32, offset: Offset) -> Decoded
     })
 }
 
-fn contiguous_scalar(word: u32) -> Decoded
-    ensures { λ r. ⌜ r ≡ scalarOf word (contiguousOf word) ⌝ }
+// An SVE scalar form of a load: Rm = 31 is undefined.
+fn scalar(word: u32, load: Decoded) -> Decoded
+    ensures { λ r. ⌜ r ≡ scalarOf word load ⌝ }
 {
     if word / 65536 % 32 == 31 {
         return Decoded::Undefined;
     }
-    contiguous(word, Offset::Reg(word / 65536 % 32))
-}
-
-fn block_scalar(wide: bool, word: u32) -> Decoded
-    ensures { λ r. ⌜ r ≡ scalarOf word (blockOf wide word) ⌝ }
-{
-    if word / 65536 % 32 == 31 {
-        return Decoded::Undefined;
-    }
-    block(wide, word, Offset::Reg(word / 65536 % 32))
+    load
 }
 
 // The family table, row by row.
 pub fn read(word: u32) -> Decoded
     ensures { λ r. ⌜ r ≡ readOf word ⌝ }
 {
+    let low = word / 2147483648 % 2 == 0;
     let top = word / 33554432 % 128;
     let op = word / 8192 % 8;
     let imm = Offset::Imm(word / 65536 % 16);
-    if (word / 2147483648 % 2 == 0) & (word / 8388608 % 128 == 26) & (word / 8192 % 512 == 6) {
+    let reg = Offset::Reg(word / 65536 % 32);
+    if low & (word / 8388608 % 128 == 26) & (word / 8192 % 512 == 6) {
         return replicate(word, Back::Keep);
     }
-    if (word / 2147483648 % 2 == 0)
-        & (word / 8388608 % 128 == 27)
-        & (word / 2097152 % 2 == 0)
-        & (op == 6)
-    {
+    if low & (word / 8388608 % 128 == 27) & (word / 2097152 % 2 == 0) & (op == 6) {
         return replicate(word, Back::Post(word / 65536 % 32));
     }
     if (top == 66) & (word / 4194304 % 2 == 1) & (word / 32768 % 2 == 1) {
@@ -150,19 +140,19 @@ pub fn read(word: u32) -> Decoded
         return contiguous(word, imm);
     }
     if (top == 82) & (op == 2) {
-        return contiguous_scalar(word);
+        return scalar(word, contiguous(word, reg));
     }
     if (top == 82) & (word / 1048576 % 8 == 0) & (op == 1) {
         return block(false, word, imm);
     }
     if (top == 82) & (word / 2097152 % 4 == 0) & (op == 0) {
-        return block_scalar(false, word);
+        return scalar(word, block(false, word, reg));
     }
     if (top == 82) & (word / 1048576 % 8 == 2) & (op == 1) {
         return block(true, word, imm);
     }
     if (top == 82) & (word / 2097152 % 4 == 1) & (op == 0) {
-        return block_scalar(true, word);
+        return scalar(word, block(true, word, reg));
     }
     Decoded::Outside
 }
