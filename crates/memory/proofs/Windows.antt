@@ -1,5 +1,5 @@
 -- The address window: of areas that are taken, the part from the address to the end of the area that holds it, and else an empty part.
-use mathlib.Core.Path.{_≡_, _∙_}
+use mathlib.Core.Path.{_≡_, sym, _∙_}
 use mathlib.Core.Bool.{true, false}
 use mathlib.Core.List.{List, []}
 use mathlib.Core.Logic.{⊎-elim}
@@ -14,17 +14,25 @@ use Rattle.memory.specs.declared.Place.the-variants.{Flash, Ram, Nowhere
 use Rattle.memory.specs.Areas.{Area, Areas, areasTaken, placeOf, placeIn}
 use Rattle.memory.specs.Windows.{PartOf, shownPlace, WindowPromise}
 use Rattle.memory.specs.Said.{Holds, Taken, Of, in-flash, in-ram}
-use Rattle.memory.proofs.Places.{holds-exactly, holds-not}
+use Rattle.memory.proofs.Places.{holds-exactly, holds-not, Inside, within}
 use Rattle.memory.proofs.Takes.{taken-exactly}
 
 module _ (m : Areas) (a : ℕ) where
-  pub shown : (p : Place) → areasTaken m ≡ true → placeIn m a ≡ p → shownPlace m a ≡ p
+  pub shown-taken : areasTaken m ≡ true → shownPlace m a ≡ placeIn m a
   unfolding shownPlace
-  shown p t e = rw (t, e)
+  shown-taken t = rw t
 
-  pub not-shown : areasTaken m ≡ false → shownPlace m a ≡ Nowhere
+  pub shown-untaken : areasTaken m ≡ false → shownPlace m a ≡ Nowhere
   unfolding shownPlace
-  not-shown t = rw t
+  shown-untaken t = rw t
+
+  -- a place that is shown lies within its area
+  pub shown-within : (p : Place) → shownPlace m a ≡ p → Inside (length (m .flash .bytes)) (length (m .ram .bytes)) p
+  shown-within p e =
+      ⊎-elim
+      (λ t. within _ _ _ _ a p (sym (shown-taken t) ∙ e))
+      (λ t. rw (← e, shown-untaken t) tt)
+      (true-or-false (areasTaken m))
 
 -- the slice that an area's bytes are lent in
 abbrev pub lentOf : {m : Areas} {r : Area} → Of m r → RefT (List ℕ) → RefT (List ℕ) → RefT (List ℕ)
@@ -37,22 +45,22 @@ module _ (m : Areas) (a : ℕ) (flash ram p : RefT (List ℕ)) (w : WindowPromis
   unfolding placeOf
   shows-rest t in-flash h =
       let e : placeIn m a ≡ Flash (a - m .flash .start) = rw (holds-exactly (m .flash) a .1 h) in
-      rw (shown m a (Flash (a - m .flash .start)) (taken-exactly m .1 t) e) at w
+      rw (shown-taken m a (taken-exactly m .1 t), e) at w
   shows-rest t in-ram h =
       let e : placeIn m a ≡ Ram (a - m .ram .start) = rw (holds-not (m .flash) a .1 (λ k. t .share-none a k h), holds-exactly (m .ram) a .1 h) in
-      rw (shown m a (Ram (a - m .ram .start)) (taken-exactly m .1 t) e) at w
+      rw (shown-taken m a (taken-exactly m .1 t), e) at w
 
   -- no such byte: an empty part, of flash
   pub shows-none : (Holds (m .flash) a → ⊥) → (Holds (m .ram) a → ⊥) → PartOf flash p 0 0
   unfolding placeOf
   shows-none f r =
       let e : placeIn m a ≡ Nowhere = rw (holds-not (m .flash) a .1 f, holds-not (m .ram) a .1 r) in
-      ⊎-elim (λ t. rw (shown m a Nowhere t e) at w) (λ t. rw (not-shown m a t) at w) (true-or-false (areasTaken m))
+      ⊎-elim (λ t. rw (shown-taken m a t, e) at w) (λ t. rw (shown-untaken m a t) at w) (true-or-false (areasTaken m))
 
   -- areas that are not taken: an empty part, of flash
   pub shows-none-untaken : (Taken m → ⊥) → PartOf flash p 0 0
   shows-none-untaken n =
-      ⊎-elim (λ t. absurd (n (taken-exactly m .0 t))) (λ t. rw (not-shown m a t) at w) (true-or-false (areasTaken m))
+      ⊎-elim (λ t. absurd (n (taken-exactly m .0 t))) (λ t. rw (shown-untaken m a t) at w) (true-or-false (areasTaken m))
 
 -- what a part is: no byte where it ends at its start, and all bytes from its start on where it ends with the slice
 pub part-empty : (s p : RefT (List ℕ)) → PartOf s p 0 0 → p .now ≡ []

@@ -9,7 +9,7 @@ ghost use Rattle.memory.specs.Addresses.{plusOf, movedOf};
 ghost use Rattle.memory.specs.Areas.{areasOf, endOf, areaTaken, apart, areasTaken, holds, placeOf};
 ghost use Rattle.memory.specs.Bytes.{readRight, judged, lookOf};
 ghost use Rattle.memory.specs.Elements.{readingOf};
-ghost use Rattle.memory.specs.Windows.{WindowPromise};
+ghost use Rattle.memory.specs.Windows.{shownPlace, WindowPromise};
 
 // An address, so that it is mixed with no lane number and no offset. Its arithmetic is modulo 2^64.
 pub struct Address(pub u64);
@@ -222,6 +222,23 @@ fn shorter<'f, 'r: 'f>(s: &'r [u8], like: &'f [u8]) -> &'f [u8]
     s
 }
 
+// The place that the address window shows: nowhere where the areas are not taken.
+fn shown(
+    map: Map,
+    flash: &[u8],
+    flash_rights: &[u8],
+    ram: &[u8],
+    ram_rights: &[u8],
+    a: Address,
+) -> Place
+    ensures { λ r. ⌜ r ≡ shownPlace (areasOf map (now (flash .entry)) (now («flash_rights» .entry)) (now (ram .entry)) (now («ram_rights» .entry))) (a .0) ⌝ }
+{
+    if taken(map, flash, flash_rights, ram, ram_rights) {
+        return locate(map, flash.len(), ram.len(), a);
+    }
+    Place::Nowhere
+}
+
 // The address window: the stretch from a byte to its area's end, rights ignored.
 pub fn window<'f, 'r: 'f>(
     map: Map,
@@ -233,12 +250,9 @@ pub fn window<'f, 'r: 'f>(
 ) -> &'f [u8]
     ensures { λ p. ⌜ WindowPromise (areasOf map (now (flash .entry)) (now («flash_rights» .entry)) (now (ram .entry)) (now («ram_rights» .entry))) (a .0) (flash .entry) (ram .entry) p ⌝ }
 {
-    if taken(map, flash, flash_rights, ram, ram_rights) {
-        match locate(map, flash.len(), ram.len(), a) {
-            Place::Flash(k) => return &flash[k..],
-            Place::Ram(k) => return shorter(&ram[k..], flash),
-            Place::Nowhere => return &flash[0..0],
-        }
+    match shown(map, flash, flash_rights, ram, ram_rights, a) {
+        Place::Flash(k) => &flash[k..],
+        Place::Ram(k) => shorter(&ram[k..], flash),
+        Place::Nowhere => &flash[0..0],
     }
-    &flash[0..0]
 }

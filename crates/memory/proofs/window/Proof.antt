@@ -1,23 +1,19 @@
--- `window` meets its contract: the place is shown where the areas are taken, and lies within its area, so that the part can be cut there.
+-- `window` meets its contract: the place that is shown lies within its area, so that the part can be cut there.
 use mathlib.Core.Path.{sym, _∙_}
 use native.Mathlib.Nat.{le-of-lt}
 use borrow.Author.Needs.{needs}
-use Rattle.memory.proofs.Places.{within}
-use Rattle.memory.proofs.Windows.{shown, not-shown}
+use Rattle.memory.proofs.Windows.{shown-within}
 use Rattle.memory.proofs.window.Statement.{statement}
 use Rattle.memory.proofs.window.Tie as tie
 
-taken-requires : tie.Need-taken-requires
-taken-requires c κs = search needs
-
-locate-requires : tie.Need-locate-requires
-locate-requires c κs = search needs
+shown-requires : tie.Need-shown-requires
+shown-requires c κs = search needs
 
 enum-known-k : tie.Need-enum-known-k
 enum-known-k c = search needs
 
 sub-result : tie.Need-sub-result
-sub-result c = le-of-lt (within _ _ _ _ _ _ (sym (c .before .before .before .locate .ensures) ∙ c .before .k .given .1))
+sub-result c = le-of-lt (shown-within _ _ _ (sym (c .before .before .before .shown .ensures) ∙ c .before .k .given .1))
 
 part-result-start : tie.Need-part-result-start
 part-result-start c = sub-result c
@@ -25,16 +21,11 @@ part-result-start c = sub-result c
 part-result-end : tie.Need-part-result-end
 part-result-end c = search needs
 
-returns : tie.Need-returns
-returns c =
-    let t = c .before .before .before .before in
-    rw (shown _ _ _ (sym (t .before .before .taken .ensures) ∙ t .before .if1 .taken) (sym (t .locate .ensures) ∙ c .before .before .k .given .1)) (search needs)
-
 enum-known-k-2 : tie.Need-enum-known-k-2
 enum-known-k-2 c = search needs
 
 sub-shorter : tie.Need-sub-shorter
-sub-shorter c = le-of-lt (within _ _ _ _ _ _ (sym (c .before .before .before .locate .ensures) ∙ c .before .k2 .given .1))
+sub-shorter c = le-of-lt (shown-within _ _ _ (sym (c .before .before .before .shown .ensures) ∙ c .before .k2 .given .1))
 
 part-shorter-start : tie.Need-part-shorter-start
 part-shorter-start c = sub-shorter c
@@ -44,12 +35,6 @@ part-shorter-end c = search needs
 
 shorter-requires : tie.Need-shorter-requires
 shorter-requires c κs = search needs
-
-returns-2 : tie.Need-returns-2
-returns-2 c =
-    let t = c .before .before .before .before .before in
-    rw (shown _ _ _ (sym (t .before .before .taken .ensures) ∙ t .before .if1 .taken) (sym (t .locate .ensures) ∙ c .before .before .before .k2 .given .1), c .shorter .ensures)
-    (search needs)
 
 enum-told : tie.Need-enum-told
 enum-told c = search needs
@@ -63,46 +48,33 @@ part-result-start-2 c = search needs
 part-result-end-2 : tie.Need-part-result-end-2
 part-result-end-2 c = search needs
 
+returns : tie.Need-returns
+returns c = rw (sym (c .before .before .before .before .shown .ensures) ∙ c .before .before .k .given .1) (search needs)
+
+returns-2 : tie.Need-returns-2
+returns-2 c = rw (sym (c .before .before .before .before .before .shown .ensures) ∙ c .before .before .before .k2 .given .1, c .shorter .ensures) (search needs)
+
 returns-3 : tie.Need-returns-3
-returns-3 c =
-    let t = c .before .before .before in
-    rw (shown _ _ _ (sym (t .before .before .taken .ensures) ∙ t .before .if1 .taken) (sym (t .locate .ensures) ∙ c .before .enum-told .given .1)) (search needs)
-
-sub-result-3 : tie.Need-sub-result-3
-sub-result-3 c = search needs
-
-part-result-start-3 : tie.Need-part-result-start-3
-part-result-start-3 c = search needs
-
-part-result-end-3 : tie.Need-part-result-end-3
-part-result-end-3 c = search needs
-
-returns-4 : tie.Need-returns-4
-returns-4 c = rw (not-shown _ _ (sym (c .before .before .taken .ensures) ∙ c .before .if1 .left)) (search needs)
+returns-3 c = rw (sym (c .before .before .before .shown .ensures) ∙ c .before .enum-told .given .1) (search needs)
 
 pub window-spec : {M : Type 1} → statement M
 window-spec =
     tie.close
     (tie.spec
-    taken-requires
-    locate-requires
+    shown-requires
     enum-known-k
     sub-result
     part-result-start
     part-result-end
-    returns
     enum-known-k-2
     sub-shorter
     part-shorter-start
     part-shorter-end
     shorter-requires
-    returns-2
     enum-told
     sub-result-2
     part-result-start-2
     part-result-end-2
-    returns-3
-    sub-result-3
-    part-result-start-3
-    part-result-end-3
-    returns-4)
+    returns
+    returns-2
+    returns-3)
