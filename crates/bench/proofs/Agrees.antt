@@ -14,12 +14,11 @@ use Rattle.words.specs.declared.Insn.{Insn}
 use Rattle.words.specs.declared.Decoded.{Decoded}
 use Rattle.words.specs.declared.Decoded.the-variants.{Outside, Undefined, Is}
 use Rattle.memory.specs.Addresses.{plusOf}
-use Rattle.memory.specs.Areas.{Area, Areas}
+use Rattle.memory.specs.Areas.{Areas}
 use Rattle.memory.specs.Bytes.{lookOf}
 use Rattle.memory.specs.Said.{SamePlaces}
 use Rattle.memory.specs.Troubles.{troubleOf}
 use Rattle.memory.specs.declared.Map.{Map}
-use Rattle.memory.specs.declared.Cell.the-variants as C
 use Rattle.memory.proofs.Alike.{same-trouble, same-look}
 use Rattle.memory.proofs.Elements.{reading-cong, reading-bad-cong}
 use Rattle.bench.specs.Benches.{Lent, Bench, areas}

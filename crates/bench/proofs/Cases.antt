@@ -5,6 +5,7 @@ use mathlib.Core.List.{List, [], _∷_, _++_}
 use lib.Dec.{eqb}
 use lib.ListN.{replicate}
 use Rattle.ground.specs.Choices.{if_then_else_}
+use Rattle.ground.specs.Lists.{listed}
 use Rattle.memory.specs.declared.Map.{Map}
 use Rattle.bench.specs.Answers.{Report}
 use Rattle.bench.specs.Benches.{Lent, Bench}
@@ -116,12 +117,8 @@ abbrev pub valueIn : List Named → ℕ → ℕ
 valueIn [] n = 2 ^ 63 + n
 valueIn (m ∷ ms) n = if eqb (m .number) n then m .value else valueIn ms n
 
-abbrev pub scalarsFrom : List Named → ℕ → ℕ → List ℕ
-scalarsFrom ms n zero = []
-scalarsFrom ms n (suc k) = valueIn ms n ∷ scalarsFrom ms (n + 1) k
-
 abbrev pub scalarsOf : List Named → List ℕ
-scalarsOf ms = scalarsFrom ms 0 33
+scalarsOf ms = listed (valueIn ms) 0 33
 
 abbrev pub old : List Named → List Named
 old ms = ms ++ (pc ≔ 1000 ∷ [])
@@ -221,8 +218,7 @@ refuses w u number = faults w u number 0 0 0
 
 -- a, a + 1 and on, n of them
 abbrev pub rising : ℕ → ℕ → List ℕ
-rising a zero = []
-rising a (suc n) = a ∷ rising (a + 1) n
+rising a n = listed (λ k. k) a n
 
 -- 01..08
 abbrev pub eight : List ℕ

@@ -1,6 +1,6 @@
 -- Demand 2's own words leave nothing open: two benches of which `Leaves` holds are the same to the last byte and number. So it is
 -- document 01's statement, and not only the definition, that determines what a load that ran leaves.
-use mathlib.Core.Path.{_≡_, sym, ap, _∙_}
+use mathlib.Core.Path.{_≡_, ap}
 use mathlib.Core.Bool.{Bool, true, false}
 use mathlib.Core.Logic.{⊎-elim}
 use Prim.Native.Nat.{ℕ, suc, _+_, _-_, _*_, _/_, _%_, _^_, _<_}
@@ -11,7 +11,6 @@ use lib.ListN.{getD}
 use lib.Seq.{ext-getD}
 use borrow.Author.Tests.{eqb-true, eqb-false, ltb-true, ltb-false, leb-true, leb-false}
 use Rattle.ground.proofs.Laws.{true-or-false, never, only-one, little-tells}
-use Rattle.ground.specs.Lists.{little}
 use Rattle.ground.specs.Sizes.{bytesOf}
 use Rattle.ground.specs.declared.Size.{Size}
 use Rattle.ground.specs.declared.Size.the-variants.{B8, B16, B32, B64}
@@ -40,10 +39,10 @@ Octets s = (r : Area) → Of s r → (j : ℕ) → getD (r .bytes) j 0 < 256
 
 -- an extended number is one number
 extended-once : (signed : Bool) (bits lane v x y : ℕ) → Extends signed bits lane v x → Extends signed bits lane v y → x ≡ y
-extended-once false bits lane v x y p q = p ∙ sym q
+extended-once false bits lane v x y p q = only-one p q
 extended-once true bits lane v x y p q =
     ⊎-elim
-    (λ t. let h = ltb-true v (2 ^ (bits - 1)) t in p .0 h ∙ sym (q .0 h))
+    (λ t. let h = ltb-true v (2 ^ (bits - 1)) t in only-one (p .0 h) (q .0 h))
     (λ t. let h = ltb-false v (2 ^ (bits - 1)) t in omega (arith, p .1 h, q .1 h))
     (true-or-false (ltb v (2 ^ (bits - 1))))
 

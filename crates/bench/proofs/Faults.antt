@@ -7,15 +7,14 @@ use native.Mathlib.Omega.{arith}
 use Rattle.ground.specs.Sizes.{bytesOf}
 use Rattle.words.specs.declared.Insn.{Insn}
 use Rattle.memory.specs.Addresses.{plusOf}
-use Rattle.memory.specs.Areas.{Area, Areas}
+use Rattle.memory.specs.Areas.{Areas}
 use Rattle.memory.specs.Bytes.{lookOf}
 use Rattle.memory.specs.Elements.{readingOf}
-use Rattle.memory.specs.Said.{Holds, Taken, Of, in-flash, in-ram}
+use Rattle.memory.specs.Said.{Taken, in-flash, in-ram}
 use Rattle.memory.specs.Troubles.{ByteAt, Bad, nowhere, denied, badCell, badReading, none, bad, troubleOf}
-use Rattle.memory.specs.declared.Cell.the-variants as C
 use Rattle.memory.specs.declared.Reading.{Reading}
 use Rattle.memory.specs.declared.Reading.the-variants as R
-use Rattle.memory.proofs.Looks.{nowhere-exactly, denied-exactly, byte-exactly, right-byte}
+use Rattle.memory.proofs.Looks.{held-none, nowhere-exactly, denied-exactly, byte-exactly, right-byte}
 use Rattle.memory.proofs.Elements.{value-exactly, bad-exactly}
 use Rattle.bench.specs.Benches.{Lent, Bench, areas}
 use Rattle.bench.specs.Plans.{planOf}
@@ -53,12 +52,7 @@ module _ (s : Areas) (taken : Taken s) (a : ℕ) where
   can-read = (λ h. let r = byte-exactly s taken a (h .0) .0 (h .1) in (r .0, r .1, r .2, r .3), λ h. (_, right-byte s taken a (h .1) (h .2) (h .3)))
 
   pub is-bad : (t : Bad) → (lookOf s a ≡ badCell t) ↔ IsBad t s a
-  is-bad nowhere =
-      (λ h. let n = nowhere-exactly s a .0 h in either n, λ h. nowhere-exactly s a .1 (h _ in-flash, h _ in-ram))
-    where
-      either : (Holds (s .flash) a → ⊥) × (Holds (s .ram) a → ⊥) → (r : Area) → Of s r → Holds r a → ⊥
-      either n r in-flash k = n .0 k
-      either n r in-ram k = n .1 k
+  is-bad nowhere = (λ h. held-none s a (nowhere-exactly s a .0 h), λ h. nowhere-exactly s a .1 (h _ in-flash, h _ in-ram))
   is-bad denied = denied-exactly s taken a
 
 -- an active element of a load on taken areas

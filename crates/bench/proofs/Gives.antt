@@ -19,7 +19,7 @@ use Rattle.bench.specs.Answers.{Report, report, refusal, reportOf}
 use Rattle.bench.specs.Terms.{scalar}
 use Rattle.bench.specs.Plans.{planOf}
 use Rattle.bench.specs.Lanes.{governing}
-use Rattle.bench.specs.Outcomes.{Outcome, walk, answersOf, surveyOf, outcomeOf}
+use Rattle.bench.specs.Outcomes.{Outcome, answersOf, surveyOf, outcomeOf}
 use Rattle.bench.specs.Steps.{isWide, switchedOn, stackFails, Prepared, Stop, Go, refusals, preparedLoad, preparedBy, prepared, carriedOut, stepOf}
 use Rattle.bench.specs.Given as S
 use Rattle.bench.specs.Said.{Accepted, Active, byteAt}
@@ -29,7 +29,7 @@ use Rattle.bench.proofs.Fields.{few}
 use Rattle.bench.proofs.Actives.{active}
 use Rattle.bench.proofs.Accepts.{accepted-exactly}
 use Rattle.bench.proofs.Walks.{many, number, walk-clear, walk-stopped, clear-or-stopped}
-use Rattle.bench.proofs.Counts.{counted-most, counted, counted-on, counted-once}
+use Rattle.bench.proofs.Counts.{counted-most, counted-once}
 use Rattle.bench.proofs.Faults.{IsBad}
 use Rattle.bench.proofs.Unique.{answerOf, resultOf}
 use Rattle.bench.proofs.Tests.{wide-exactly, on-exactly, stack-exactly}

@@ -1,15 +1,12 @@
 -- What a step never changes, and what any answer but 0 leaves.
 use mathlib.Core.Path.{_≡_, refl}
 use Prim.Native.Nat.{ℕ}
-use lib.Dec.{eqb}
 use borrow.Author.Tests.{ne-eqb}
 use Rattle.ground.proofs.Laws.{if-cases}
 use Rattle.bench.specs.Benches.{Lent, Bench, accepted}
 use Rattle.bench.specs.Answers.{report}
-use Rattle.bench.specs.Terms.{scalar}
 use Rattle.bench.specs.Outcomes.{Outcome, outcomeOf}
 use Rattle.bench.specs.Steps.{Prepared, Stop, Go, prepared, carriedOut, stepOf}
-use Rattle.bench.specs.Given as S
 use Rattle.bench.proofs.Walks.{number}
 
 module _ (l : Lent) (w : ℕ) (b : Bench) where

@@ -11,18 +11,14 @@ use lib.Dec.{leb}
 use borrow.Author.Tests.{leb-true, leb-false}
 use Rattle.ground.proofs.Laws.{true-or-false}
 use Rattle.words.specs.declared.Insn.{Insn}
-use Rattle.words.specs.declared.Decoded.the-variants.{Is}
 use Rattle.ground.specs.Lists.{upFrom}
 use Rattle.memory.specs.declared.Reading.{Reading}
 use Rattle.memory.specs.Troubles.{Bad, bad}
 use Rattle.bench.specs.Benches.{Lent, Bench}
 use Rattle.bench.specs.Answers.{report}
-use Rattle.bench.specs.Terms.{scalar}
 use Rattle.bench.specs.Plans.{planOf}
 use Rattle.bench.specs.Lanes.{governing, wanted, asked}
 use Rattle.bench.specs.Outcomes.{walk, answersOf, surveyOf}
-use Rattle.bench.specs.Steps.{Stop}
-use Rattle.bench.specs.Given as S
 use Rattle.bench.specs.Said.{Accepted, Active, byteAt}
 use Rattle.bench.specs.Given.{FirstBad, Counted, Wide, AllReadable, most}
 use Rattle.bench.specs.declared.Plan.{Plan}
@@ -37,10 +33,10 @@ module _ (l : Lent) (b : Bench) (i : Insn) (a : Accepted l b) (long : Wide i →
   plan = planOf (l .settings .vl) (b .scalars) i
 
   abbrev pub want : ℕ → Bool
-  want = wanted (plan) (governing l (plan))
+  want = wanted plan (governing l plan)
 
   abbrev pub answer : ℕ → Reading
-  answer = answersOf l b (plan)
+  answer = answersOf l b plan
 
   abbrev pub elements : ℕ
   elements = plan .elements
@@ -69,7 +65,7 @@ module _ (l : Lent) (b : Bench) (i : Insn) (a : Accepted l b) (long : Wide i →
       (_, rw n at (counts-beyond (e - elements))))
       (true-or-false (leb e elements))
 
-  pub survey-is : surveyOf answer (plan) (governing l (plan)) ≡ walk answer 0 (upFrom want 0 elements)
+  pub survey-is : surveyOf answer plan (governing l plan) ≡ walk answer 0 (upFrom want 0 elements)
   unfolding surveyOf asked
   survey-is = refl
 
@@ -79,7 +75,7 @@ module _ (l : Lent) (b : Bench) (i : Insn) (a : Accepted l b) (long : Wide i →
   pub all-readable : Clear want answer 0 (0 + elements) → AllReadable l b i
   all-readable c e q = let t = asks e .1 q in let k = t .0 in good-exactly l b (a .taken) i e q .0 (c e (omega arith) (omega arith) (t .1))
 
-  pub survey-clear : AllReadable l b i → surveyOf answer (plan) (governing l (plan)) ≡ report 0 (many want 0 elements) 0 0
+  pub survey-clear : AllReadable l b i → surveyOf answer plan (governing l plan) ≡ report 0 (many want 0 elements) 0 0
   survey-clear h = survey-is ∙ walk-clear want answer 0 0 _ (all-clear h) ∙ ap (λ (n : ℕ). report 0 n 0 0) (zero-add _)
 
   -- the first bad byte of the scope's table is what stops the walk

@@ -1,6 +1,6 @@
 -- The definition's tests, in the scope of work's words.
 use mathlib.Core.Path.{_≡_, refl, sym, _∙_}
-use mathlib.Core.Bool.{true, not, _&&_}
+use mathlib.Core.Bool.{true, _&&_}
 use mathlib.Core.Logic.{_↔_}
 use Prim.Native.Nat.{_%_, _≤_}
 use lib.Dec.{eqb}
@@ -13,7 +13,6 @@ use Rattle.bench.specs.Terms.{scalar}
 use Rattle.bench.specs.Plans.{planOf}
 use Rattle.bench.specs.Lanes.{governing}
 use Rattle.bench.specs.Steps.{isWide, switchedOn, checksStack, stackFails}
-use Rattle.bench.specs.Given as S
 use Rattle.bench.specs.Said.{Accepted, baseOf, Checks}
 use Rattle.bench.specs.Given.{Wide, On}
 use Rattle.bench.specs.declared.Plan.{Plan}

@@ -6,6 +6,7 @@ use mathlib.Core.List.{[], _∷_, map}
 use lib.ListN.{getD}
 use Rattle.ground.proofs.Laws.{only-one}
 use Rattle.memory.specs.declared.Address.{Address}
+use Rattle.memory.proofs.Unique.{address-unique as same-address}
 use Rattle.bench.specs.Answers.{numberOf, elementOf, addressOf, Report, report, reportOf}
 use Rattle.bench.specs.declared.StepResult.{StepResult}
 use Rattle.bench.specs.declared.Answer.{Answer}
@@ -52,4 +53,4 @@ module _ (a : Answer) where
   element-unique m n p q = only-one p q
 
   pub address-unique : (x y : Address) → x .0 ≡ addressOf a → y .0 ≡ addressOf a → x ≡ y
-  address-unique x y p q = λ i. record { 0 = only-one p q i }
+  address-unique x y p q = same-address x y p q

@@ -3,7 +3,7 @@ use Prim.Native.Nat.{ℕ, _+_, _*_, _/_}
 use mathlib.Core.Bool.{Bool, true, false}
 use mathlib.Core.List.{List}
 use lib.Dec.{eqb}
-use lib.IntN.{ℤ, pos, _*ℤ_}
+use lib.IntN.{pos, _*ℤ_}
 use Rattle.ground.specs.Choices.{if_then_else_}
 use Rattle.ground.specs.Sizes.{bytesOf, sizeOf}
 use Rattle.ground.specs.declared.Size.{Size}

@@ -1,7 +1,7 @@
 -- One byte: a load finds it exactly where an area holds the address with the read right of its page, is denied exactly where
 -- the right is missing, and finds nothing exactly where neither area holds the address.
 use mathlib.Core.Path.{_≡_, sym, _∙_, ap}
-use mathlib.Core.Bool.{Bool, true, false}
+use mathlib.Core.Bool.{Bool, false}
 use mathlib.Core.Logic.{_↔_, _⊎_, inl, inr, ⊎-elim}
 use Prim.Native.Nat.{ℕ, _-_, _/_, _%_}
 use native.Mathlib.Omega.{arith}
@@ -9,7 +9,6 @@ use lib.Dec.{eqb}
 use lib.ListN.{length, getD}
 use borrow.Author.Tests.{eq-eqb, ne-eqb, eqb-true, eqb-false}
 use Rattle.ground.proofs.Laws.{true-or-false}
-use Rattle.memory.specs.declared.Place.the-variants as P
 use Rattle.memory.specs.declared.Cell.{Cell}
 use Rattle.memory.specs.declared.Cell.the-variants.{Byte, Nowhere, Denied}
 use Rattle.memory.specs.Areas.{Area, Areas, holds, placeOf}
@@ -78,16 +77,16 @@ module _ (m : Areas) (a : ℕ) where
       (true-or-false (holdsAt (m .ram) a)))
       (true-or-false (holdsAt (m .flash) a))
 
+  pub held-none : (Holds (m .flash) a → ⊥) × (Holds (m .ram) a → ⊥) → (r : Area) → Of m r → Holds r a → ⊥
+  held-none h r in-flash k = h .0 k
+  held-none h r in-ram k = h .1 k
+
   pub nowhere-exactly : (lookOf m a ≡ Nowhere) ↔ ((Holds (m .flash) a → ⊥) × (Holds (m .ram) a → ⊥))
   unfolding Found
   nowhere-exactly = (
     λ e. ⊎-elim (λ w. absurd (judged-somewhere (w .0) a (sym (w .3) ∙ e))) (λ w. (w .0, w .1)) found,
-    λ h. ⊎-elim (λ w. absurd (held-none (w .1) h (w .2))) (λ w. w .2) found,
+    λ h. ⊎-elim (λ w. absurd (held-none h (w .0) (w .1) (w .2))) (λ w. w .2) found,
   )
-    where
-      held-none : {r : Area} → Of m r → ((Holds (m .flash) a → ⊥) × (Holds (m .ram) a → ⊥)) → Holds r a → ⊥
-      held-none in-flash h k = h .0 k
-      held-none in-ram h k = h .1 k
 
 -- taken areas: one law for flash and RAM
 module _ (m : Areas) (t : Taken m) (a : ℕ) where

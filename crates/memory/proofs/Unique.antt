@@ -21,7 +21,7 @@ use Rattle.memory.specs.Elements.{readingOf}
 use Rattle.memory.specs.Windows.{PartOf, Shows, shownPlace, WindowPromise}
 
 -- an address is its number
-address-unique : {n : ℕ} (x y : Address) → x .0 ≡ n → y .0 ≡ n → x ≡ y
+pub address-unique : {n : ℕ} (x y : Address) → x .0 ≡ n → y .0 ≡ n → x ≡ y
 address-unique x y p q = λ i. record { 0 = only-one p q i }
 
 pub plus-unique : (a n : ℕ) (x y : Address) → x .0 ≡ plusOf a n → y .0 ≡ plusOf a n → x ≡ y

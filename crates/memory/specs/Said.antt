@@ -3,8 +3,6 @@ use mathlib.Core.Path.{_≡_}
 use Prim.Native.Nat.{ℕ, _+_, _-_, _*_, _/_, _%_, _^_, _≤_, _<_}
 use lib.ListN.{length, getD}
 use Rattle.memory.specs.Areas.{Area, Areas}
-use Rattle.memory.specs.declared.Cell.the-variants as C
-use Rattle.memory.specs.declared.Reading.the-variants as R
 
 -- an area has a byte at an address
 abbrev pub Holds : Area → ℕ → Type 0
