@@ -4,9 +4,10 @@ use mathlib.Core.Path.{_≡_, refl, sym, _∙_, ap}
 use mathlib.Core.Bool.{Bool, true, false, _&&_, _||_}
 use mathlib.Core.List.{List, [], _∷_, _++_}
 use native.Mathlib.Omega.{arith}
-use native.Mathlib.Nat.{add-assoc, mod-one, pow-suc, div-div-eq-div-mul, add-zero, le-of-suc-le-suc, not-suc-le-zero}
+use native.Mathlib.Nat.{add-assoc, mod-one, mod-lt, mod-eq-of-lt, pow-suc, mul-suc, div-one, div-div-eq-div-mul, add-zero, zero-add, le-of-suc-le-suc, not-suc-le-zero}
 use native.Mathlib.Numerals.{add-one, one-add}
 use lib.Arith.{mod-mul}
+use lib.Pow.{pow-add}
 use lib.Dec.{eqb, lit<}
 use lib.ListN.{length, getD, take, drop, length-append, length-take, length-drop, List·getD-append}
 use lib.Seq.{getD-take, getD-drop, getD-append-add}
@@ -221,3 +222,31 @@ little-tells f g i k (suc n) p q e (suc j) h =
     let rest : little f (i + 1) n ≡ little g (k + 1) n = omega (arith, u, v, e) in
     rw (← one-add j, ← add-assoc, ← add-assoc)
     (little-tells f g (i + 1) (k + 1) n (λ m l. rw (add-assoc, one-add) (p (suc m) (omega arith))) (λ m l. rw (add-assoc, one-add) (q (suc m) (omega arith))) rest j (omega arith))
+
+-- .. and the number of one digit more has it on top
+pub little-more : (f : ℕ → ℕ) (i n : ℕ) → little f i (suc n) ≡ little f i n + f (i + n) * 256 ^ n
+little-more f i zero = let place : f (i + 0) ≡ f i = ap f (add-zero i) in omega arith
+little-more f i (suc n) =
+    let place : f (i + 1 + n) ≡ f (i + suc n) = ap f (omega arith) in
+    rw (little-more f (i + 1) n, place, pow-suc) (omega arith)
+
+-- n digits to the base 256 are 8 times n bits
+pub pow-bytes : (n : ℕ) → 256 ^ n ≡ 2 ^ (8 * n)
+pow-bytes zero = refl
+pow-bytes (suc n) = pow-suc 256 n ∙ ap (λ (k : ℕ). k * 256) (pow-bytes n) ∙ sym (ap (λ (k : ℕ). 2 ^ k) (mul-suc 8 n) ∙ pow-add 2 (8 * n) 8)
+
+-- a number of n digits is the number of its n lowest
+pub little-self : (v n : ℕ) → v < 256 ^ n → little (λ j. v / 256 ^ j % 256) 0 n ≡ v
+little-self v n h = little-digits v 0 n ∙ rw div-one (mod-eq-of-lt h)
+
+-- digit j of the number that digits make
+pub little-digit : (f : ℕ → ℕ) (i n : ℕ) → ((j : ℕ) → j < n → f (i + j) < 256) → (j : ℕ) → j < n → little f i n / 256 ^ j % 256 ≡ f (i + j)
+little-digit f i n small j l =
+    rw zero-add at
+    (little-tells (λ k. little f i n / 256 ^ k % 256) f 0 i n (λ k m. omega arith) small (little-self (little f i n) n (little-below f i n small)) j l)
+
+-- the n lowest digits of a number are those of the number modulo 256^n
+pub digit-mod : (v n j : ℕ) → j < n → v % 256 ^ n / 256 ^ j % 256 ≡ v / 256 ^ j % 256
+digit-mod v n j h =
+    let low : little (λ k. v / 256 ^ k % 256) 0 n ≡ v % 256 ^ n = rw div-one at (little-digits v 0 n) in
+    rw (low, zero-add) at (little-digit (λ k. v / 256 ^ k % 256) 0 n (λ k l. mod-lt _ (lit< tt)) j h)

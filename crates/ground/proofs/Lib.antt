@@ -1,3 +1,4 @@
 -- The general laws that every proof cites, and the laws of the sizes.
 pub mod Laws
 pub mod Sizes
+pub mod Fills

@@ -3,7 +3,6 @@
 use mathlib.Core.Path.{_≡_, refl, sym, _∙_, ap, subst}
 use mathlib.Core.Logic.{_↔_, _⊎_, inl, inr, ⊎-elim}
 use Prim.Native.Nat.{ℕ, zero, suc, _+_, _*_, _^_, _≤_, _<_}
-use native.Mathlib.Nat.{pow-suc}
 use native.Mathlib.Omega.{arith}
 use lib.Dec.{eqb}
 use borrow.Author.Tests.{eqb-true, eqb-false}
@@ -191,20 +190,3 @@ pub reading-bad-cong : (look other : ℕ → Cell) (a n : ℕ) → a < 2 ^ 64
     → troubleOf (readingOf look a n) ≡ troubleOf (readingOf other a n)
 reading-bad-cong look other a n l h =
     ap troubleOf (from-start look a n l) ∙ trouble-cong look other a 0 n (λ k p q. h k (omega arith)) ∙ ap troubleOf (sym (from-start other a n l))
-
--- a value of n bytes has n digits to the base 256
-pub value-below : (look : ℕ → Cell) → ((x b : ℕ) → look x ≡ C.Byte b → b < 256) → (a n v : ℕ) → readingOf look a n ≡ Value v → v < 256 ^ n
-unfolding readingOf
-value-below look small a zero v e = let d : 0 ≡ v = cc in omega arith
-value-below look small a (suc n) v e = go (λ w. value-below look small (plusOf a 1) n w) (look a) refl e
-  where
-    go : ((w : ℕ) → readingOf look (plusOf a 1) n ≡ Value w → w < 256 ^ n)
-        → (c : Cell) → look a ≡ c → onCell c a (readingOf look (plusOf a 1) n) ≡ Value v → v < 256 ^ suc n
-    go ih (C.Byte b) p f =
-        let u = under-value b (readingOf look (plusOf a 1) n) v f in
-        let q = small a b p in
-        let w = u .2 in
-        let l = ih (u .0) (u .1) in
-        rw pow-suc (omega arith)
-    go ih C.Nowhere p f = let z : _≡_ {A = ℕ} 0 1 = cc in absurd (omega arith)
-    go ih C.Denied p f = let z : _≡_ {A = ℕ} 0 1 = cc in absurd (omega arith)

@@ -7,7 +7,7 @@ ghost use lib.ListN.{length};
 ghost use Rattle.ground.specs.Sizes.{bytesOf};
 ghost use Rattle.memory.specs.Addresses.{plusOf, movedOf};
 ghost use Rattle.memory.specs.Areas.{areasOf, endOf, areaTaken, apart, areasTaken, holds, placeOf};
-ghost use Rattle.memory.specs.Bytes.{readRight, judged, lookOf};
+ghost use Rattle.memory.specs.Bytes.{judged, lookOf};
 ghost use Rattle.memory.specs.Elements.{readingOf};
 ghost use Rattle.memory.specs.Windows.{shownPlace, WindowPromise};
 

@@ -4,7 +4,7 @@ use Prim.Native.Nat.{ℕ, _-_, _/_, _%_, _≤_, _<_}
 use mathlib.Core.Path.{_≡_, refl}
 use native.Mathlib.Nat.{zero-add}
 use lib.Dec.{leb}
-use lib.ListN.{length}
+use lib.ListN.{length, List·getD-eq-default}
 use borrow.Author.Tests.{leb-true}
 use Rattle.ground.specs.Choices.{if_then_else_}
 use Rattle.ground.proofs.Laws.{all-at, getD-listed}
@@ -12,7 +12,8 @@ use Rattle.ground.specs.Lists.{listed}
 use mathlib.Core.Bool.{true, false}
 use Rattle.ground.specs.Sizes.{bytesOf, sizeOf}
 use Rattle.ground.specs.declared.Size.the-variants.{B64}
-use Rattle.words.specs.Dtypes.{Dtype, u, dtypes, dtypeOf}
+use Rattle.words.specs.Dtypes.{u, dtypes, dtypeOf}
+use Rattle.words.specs.declared.Dtype.{Dtype}
 
 abbrev pub ruleOf : ℕ → Dtype
 ruleOf d =
@@ -31,6 +32,11 @@ table = refl
 pub rule : (d : ℕ) → d < 16 → dtypeOf d ≡ ruleOf d
 unfolding dtypeOf
 rule d h = rw (table, getD-listed ruleOf 0 16 d (u B64 B64) h, zero-add d)
+
+-- a number that no field of four bits has
+pub past : (d : ℕ) → 16 ≤ d → dtypeOf d ≡ u B64 B64
+unfolding dtypeOf
+past d h = List·getD-eq-default dtypes (u B64 B64) (rw sixteen h)
 
 -- what is read fits its lane, whatever the number
 pub never-wider : (d : ℕ) → bytesOf (dtypeOf d .memory) ≤ bytesOf (dtypeOf d .lane)

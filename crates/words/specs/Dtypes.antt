@@ -1,15 +1,11 @@
 -- The dtype table of the scope of work: memory size to lane size, and s for sign extension.
 use Prim.Native.Nat.{ℕ}
-use mathlib.Core.Bool.{Bool, true, false}
+use mathlib.Core.Bool.{true, false}
 use mathlib.Core.List.{List, [], _∷_}
 use lib.ListN.{getD}
 use Rattle.ground.specs.declared.Size.{Size}
 use Rattle.ground.specs.declared.Size.the-variants.{B8, B16, B32, B64}
-
-pub record Dtype : Type 0 where
-  pub memory : Size
-  pub lane : Size
-  pub signed : Bool
+use Rattle.words.specs.declared.Dtype.{Dtype}
 
 abbrev pub u : Size → Size → Dtype
 u m l = record { memory = m; lane = l; signed = false }

@@ -1,7 +1,9 @@
 // Which word is which load: the family table of the scope of work.
 // A field word<hi:lo> is written word / 2^lo % 2^(hi - lo + 1), the lowest too, as its definition is.
+use ground::Size;
 ghost use mathlib.Core.Path.{_≡_};
 ghost use mathlib.Core.Bool.{true, false};
+ghost use Rattle.words.specs.Dtypes.{dtypeOf};
 ghost use Rattle.words.specs.Families.{replicateOf, byElementOf, contiguousOf, blockOf, scalarOf, readOf};
 
 // What an SVE load adds to its base: a field of four bits, signed, that counts blocks; or a scalar register.
@@ -54,6 +56,43 @@ pub enum Decoded {
     Outside,
     Undefined,
     Is(Insn),
+}
+
+// A row of the dtype table: an element's size in memory, its lane's, and whether its sign is extended.
+pub struct Dtype {
+    pub memory: Size,
+    pub lane: Size,
+    pub signed: bool,
+}
+
+impl Dtype {
+    // The row that a field of four bits names, by the table's own rule: its halves are the two sizes, and where they fall, both are
+    // turned round and the sign is extended. A field has no other number; a larger one is read as 15.
+    pub fn of(field: u32) -> Dtype
+        ensures { λ r. ⌜ r ≡ dtypeOf field ⌝ }
+    {
+        let high = field / 4;
+        let low = field % 4;
+        if 3 < high {
+            return Dtype {
+                memory: Size::B64,
+                lane: Size::B64,
+                signed: false,
+            };
+        }
+        if high <= low {
+            return Dtype {
+                memory: Size::of(high),
+                lane: Size::of(low),
+                signed: false,
+            };
+        }
+        Dtype {
+            memory: Size::of(3 - high),
+            lane: Size::of(3 - low),
+            signed: true,
+        }
+    }
 }
 
 fn replicate(word: u32, back: Back) -> Decoded

@@ -1,0 +1,239 @@
+-- How a reading is written down as a case, and how a step is compared with it: every number of the outcome, and every length.
+use Prim.Native.Nat.{ℕ, zero, suc, _+_, _-_, _/_, _^_}
+use mathlib.Core.Bool.{Bool, true, false, not, _&&_}
+use mathlib.Core.List.{List, [], _∷_, _++_}
+use lib.Dec.{eqb}
+use lib.ListN.{replicate}
+use Rattle.ground.specs.Choices.{if_then_else_}
+use Rattle.ground.specs.Lists.{listed}
+use Rattle.memory.specs.declared.Map.{Map}
+use Rattle.loads.specs.Answers.{Report}
+use Rattle.loads.specs.Benches.{Lent, Bench}
+use Rattle.loads.specs.Outcomes.{Outcome}
+use Rattle.loads.specs.Steps.{stepOf}
+use Rattle.loads.specs.declared.Settings.{Settings}
+
+-- A case: a word, the whole bench before it, and what is expected: the report, the whole vector file and all the scalars. RAM and
+-- what is lent are expected as they were.
+pub record Case : Type 0 where
+  pub word : ℕ
+  pub lent : Lent
+  pub bench : Bench
+  pub report : Report
+  pub vectors : List ℕ
+  pub scalars : List ℕ
+
+-- Comparing: every number of an outcome, and the length of every list.
+
+abbrev pub same : List ℕ → List ℕ → Bool
+same [] [] = true
+same [] (y ∷ ys) = false
+same (x ∷ xs) [] = false
+same (x ∷ xs) (y ∷ ys) = eqb x y && same xs ys
+
+abbrev pub alike : Bool → Bool → Bool
+alike true b = b
+alike false b = not b
+
+abbrev pub sameReport : Report → Report → Bool
+sameReport r t =
+    eqb (r .number) (t .number) && eqb (r .count) (t .count) && eqb (r .element) (t .element) && eqb (r .address) (t .address)
+
+abbrev pub sameSettings : Settings → Settings → Bool
+sameSettings s t =
+    eqb (s .vl) (t .vl) && alike (s .simd) (t .simd) && alike (s .sve) (t .sve) && alike (s .f64mm) (t .f64mm)
+
+abbrev pub sameMap : Map → Map → Bool
+sameMap m n = eqb (m .flash .0) (n .flash .0) && eqb (m .ram .0) (n .ram .0)
+
+abbrev pub sameLent : Lent → Lent → Bool
+sameLent l k =
+    sameSettings (l .settings) (k .settings)
+    && same (l .predicates) (k .predicates)
+    && sameMap (l .map) (k .map)
+    && same (l .flash) (k .flash)
+    && same (l .flashRights) (k .flashRights)
+    && same (l .ramRights) (k .ramRights)
+
+abbrev pub fits : Case → Outcome → Bool
+fits c o =
+    sameReport (o .report) (c .report)
+    && same (o .bench .vectors) (c .vectors)
+    && same (o .bench .scalars) (c .scalars)
+    && same (o .bench .ram) (c .bench .ram)
+    && sameLent (o .lent) (c .lent)
+
+abbrev pub right : Case → Bool
+right c = fits c (stepOf (c .lent) (c .word) (c .bench))
+
+abbrev pub allRight : List Case → Bool
+allRight [] = true
+allRight (c ∷ cs) = right c && allRight cs
+
+-- Files: register r of the old vector file is 160 + r in every byte, so that a register in another's place shows.
+
+-- registers r, r + 1 and on, k of them
+abbrev pub registers : (ℕ → List ℕ) → ℕ → ℕ → List ℕ
+registers f r zero = []
+registers f r (suc k) = f r ++ registers f (r + 1) k
+
+-- a file of n registers in which register t holds these bytes
+abbrev pub fileWith : (ℕ → List ℕ) → ℕ → ℕ → List ℕ → List ℕ
+fileWith f n t bytes = registers f 0 t ++ (bytes ++ registers f (t + 1) (n - t - 1))
+
+abbrev pub oldZ : ℕ → ℕ → List ℕ
+oldZ vl r = replicate (vl / 8) (160 + r)
+
+abbrev pub ones : ℕ → ℕ → List ℕ
+ones vl r = replicate (vl / 64) 255
+
+-- every lane of every predicate is active, or none; or predicate register t holds these bytes among registers of ones
+abbrev pub every : ℕ → List ℕ
+every vl = registers (ones vl) 0 16
+
+abbrev pub none : ℕ → List ℕ
+none vl = replicate (vl / 4) 0
+
+abbrev pub only : ℕ → ℕ → List ℕ → List ℕ
+only vl t bytes = fileWith (ones vl) 16 t bytes
+
+-- Scalars: those that are named, PC at 1,000 where it is not, and every other scalar n at 2^63 + n, where no case has memory.
+
+pub record Named : Type 0 where
+  pub number : ℕ
+  pub value : ℕ
+
+infix 68 _≔_
+abbrev pub _≔_ : ℕ → ℕ → Named
+n ≔ v = record { number = n; value = v }
+
+abbrev pub sp : ℕ
+sp = 31
+
+abbrev pub pc : ℕ
+pc = 32
+
+abbrev pub valueIn : List Named → ℕ → ℕ
+valueIn [] n = 2 ^ 63 + n
+valueIn (m ∷ ms) n = if eqb (m .number) n then m .value else valueIn ms n
+
+abbrev pub scalarsOf : List Named → List ℕ
+scalarsOf ms = listed (valueIn ms) 0 33
+
+abbrev pub old : List Named → List Named
+old ms = ms ++ (pc ≔ 1000 ∷ [])
+
+-- Memory: an area is a start, bytes and rights bytes.
+
+pub record Zone : Type 0 where
+  pub start : ℕ
+  pub bytes : List ℕ
+  pub rights : List ℕ
+
+abbrev pub zone : ℕ → List ℕ → List ℕ → Zone
+zone a bs rs = record { start = a; bytes = bs; rights = rs }
+
+abbrev pub empty : Zone
+empty = zone 0 [] []
+
+-- one page at 4,096, with the read right
+abbrev pub page : List ℕ → Zone
+page bs = zone 4096 bs (1 ∷ [])
+
+-- Settings
+
+abbrev pub on : ℕ → Settings
+on vl = record { vl = vl; simd = true; sve = true; f64mm = true }
+
+abbrev pub sveOff : ℕ → Settings
+sveOff vl = record { vl = vl; simd = true; sve = false; f64mm = true }
+
+abbrev pub simdOff : ℕ → Settings
+simdOff vl = record { vl = vl; simd = false; sve = true; f64mm = true }
+
+abbrev pub f64mmAndSveOff : ℕ → Settings
+f64mmAndSveOff vl = record { vl = vl; simd = true; sve = false; f64mm = false }
+
+-- A bench: settings, predicates, flash, RAM and the scalars that are named.
+
+pub record SetUp : Type 0 where
+  pub settings : Settings
+  pub predicates : List ℕ
+  pub flash : Zone
+  pub ram : Zone
+  pub named : List Named
+
+abbrev pub setUp : Settings → List ℕ → Zone → Zone → List Named → SetUp
+setUp s p f r ms = record { settings = s; predicates = p; flash = f; ram = r; named = ms }
+
+abbrev pub lentBy : SetUp → Lent
+lentBy u =
+    record {
+      settings = u .settings;
+      predicates = u .predicates;
+      map = record { flash = record { 0 = u .flash .start }; ram = record { 0 = u .ram .start } };
+      flash = u .flash .bytes;
+      flashRights = u .flash .rights;
+      ramRights = u .ram .rights;
+    }
+
+abbrev pub benchBy : SetUp → Bench
+benchBy u =
+    record {
+      vectors = registers (oldZ (u .settings .vl)) 0 32;
+      scalars = scalarsOf (old (u .named));
+      ram = u .ram .bytes;
+    }
+
+-- Outcomes
+
+-- "ran": a count, register t's bytes, and the scalars that change beside PC, which grows from 1,000 to 1,004 where it is not named
+abbrev pub ran : ℕ → SetUp → ℕ → ℕ → List ℕ → List Named → Case
+ran w u count t bytes changed =
+    record {
+      word = w;
+      lent = lentBy u;
+      bench = benchBy u;
+      report = record { number = 0; count = count; element = 0; address = 0 };
+      vectors = fileWith (oldZ (u .settings .vl)) 32 t bytes;
+      scalars = scalarsOf (changed ++ (pc ≔ 1004 ∷ old (u .named)));
+    }
+
+-- any other answer, with its count, lane and address: "changes no byte or number of the bench"
+abbrev pub faults : ℕ → SetUp → ℕ → ℕ → ℕ → ℕ → Case
+faults w u number count lane address =
+    record {
+      word = w;
+      lent = lentBy u;
+      bench = benchBy u;
+      report = record { number = number; count = count; element = lane; address = address };
+      vectors = registers (oldZ (u .settings .vl)) 0 32;
+      scalars = scalarsOf (old (u .named));
+    }
+
+abbrev pub refuses : ℕ → SetUp → ℕ → Case
+refuses w u number = faults w u number 0 0 0
+
+-- Bytes
+
+-- a, a + 1 and on, n of them
+abbrev pub rising : ℕ → ℕ → List ℕ
+rising a n = listed (λ k. k) a n
+
+-- 01..08
+abbrev pub eight : List ℕ
+eight = rising 1 8
+
+abbrev pub zeros : ℕ → List ℕ
+zeros n = replicate n 0
+
+abbrev pub nines : ℕ → List ℕ
+nines n = replicate n 9
+
+abbrev pub copies : ℕ → List ℕ → List ℕ
+copies zero l = []
+copies (suc n) l = l ++ copies n l
+
+-- "X0 is in readable memory and all lanes named are active": X0 at 4,096, 32 readable bytes, every lane active
+abbrev pub plain : Settings → SetUp
+plain s = setUp s (every (s .vl)) (page (rising 1 32)) empty (0 ≔ 4096 ∷ [])

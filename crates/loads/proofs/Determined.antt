@@ -1,0 +1,139 @@
+-- Demand 2's own words leave nothing open: two benches of which `Leaves` holds are the same to the last byte and number. So it is
+-- document 01's statement, and not only the definition, that determines what a load that ran leaves.
+use mathlib.Core.Path.{_≡_, ap}
+use mathlib.Core.Bool.{Bool, true, false}
+use mathlib.Core.Logic.{⊎-elim}
+use Prim.Native.Nat.{ℕ, suc, _+_, _-_, _*_, _/_, _%_, _^_, _<_}
+use native.Mathlib.Nat.{div-add-mod', suc-mul, add-assoc}
+use native.Mathlib.Omega.{arith}
+use lib.Dec.{eqb, ltb, leb}
+use lib.ListN.{getD}
+use lib.Seq.{ext-getD}
+use borrow.Author.Tests.{eqb-true, eqb-false, ltb-true, ltb-false, leb-true, leb-false}
+use Rattle.ground.proofs.Laws.{true-or-false, never, only-one, little-tells}
+use Rattle.ground.specs.Sizes.{bytesOf}
+use Rattle.ground.specs.declared.Size.{Size}
+use Rattle.ground.specs.declared.Size.the-variants.{B8, B16, B32, B64}
+use Rattle.words.specs.declared.Insn.{Insn}
+use Rattle.memory.specs.Areas.{Area, Areas}
+use Rattle.memory.specs.Bytes.{lookOf}
+use Rattle.memory.specs.Said.{Of}
+use Rattle.memory.specs.Troubles.{byteOf}
+use Rattle.memory.proofs.Looks.{right-byte}
+use Rattle.loads.specs.Benches.{Lent, Bench, areas}
+use Rattle.loads.specs.Terms.{scalar}
+use Rattle.loads.specs.Plans.{planOf}
+use Rattle.loads.specs.Lanes.{governing, takes}
+use Rattle.loads.specs.Said.{laneOf, m, L, N, signOf, baseOf, targetOf, Active, byteAt}
+use Rattle.loads.specs.Given.{Ready, AllReadable}
+use Rattle.loads.specs.Leaves.{Takes, laneIn, Extends, Contains, Adds, Leaves}
+use Rattle.loads.specs.declared.Plan.{Plan}
+use Rattle.loads.proofs.Fields.{adds-back, back-adds}
+use Rattle.loads.proofs.Actives.{takes-there, there-takes, taken-active}
+use Rattle.loads.proofs.Results.{whole}
+use Rattle.loads.proofs.Runs.{in-range-of}
+
+-- every number of the areas is a byte, as in every lent slice
+abbrev pub Octets : Areas → Type 0
+Octets s = (r : Area) → Of s r → (j : ℕ) → getD (r .bytes) j 0 < 256
+
+-- an extended number is one number
+extended-once : (signed : Bool) (bits lane v x y : ℕ) → Extends signed bits lane v x → Extends signed bits lane v y → x ≡ y
+extended-once false bits lane v x y p q = only-one p q
+extended-once true bits lane v x y p q =
+    ⊎-elim
+    (λ t. let h = ltb-true v (2 ^ (bits - 1)) t in only-one (p .0 h) (q .0 h))
+    (λ t. let h = ltb-false v (2 ^ (bits - 1)) t in omega (arith, p .1 h, q .1 h))
+    (true-or-false (ltb v (2 ^ (bits - 1))))
+
+-- byte q of a register lies in a lane of it
+lane-of : (s : Size) (vl q : ℕ) → vl % 128 ≡ 0 → q < vl / 8 → (q / bytesOf s < vl / (8 * bytesOf s)) × (q % bytesOf s < bytesOf s)
+lane-of B8 vl q h k = (omega arith, omega arith)
+lane-of B16 vl q h k = (omega arith, omega arith)
+lane-of B32 vl q h k = (omega arith, omega arith)
+lane-of B64 vl q h k = (omega arith, omega arith)
+
+module _ (l : Lent) (w : ℕ) (b : Bench) (i : Insn) (ready : Ready l w b i) (all : AllReadable l b i) (octets : Octets (areas l b)) where
+  abbrev plan : Plan
+  plan = planOf (l .settings .vl) (b .scalars) i
+
+  abbrev n : ℕ
+  n = l .settings .vl / 8
+
+  -- the bytes of an active element
+  abbrev byte : ℕ → ℕ → ℕ
+  byte e j = byteOf (lookOf (areas l b) (byteAt l (b .scalars) i e j))
+
+  contains : (e : ℕ) → Active l i e → (j : ℕ) → j < m i → Contains (areas l b) (byteAt l (b .scalars) i e j) (byte e j)
+  contains e q j h =
+      let c = all e q j h in
+      let v = ap byteOf (right-byte (areas l b) (ready .defined .accepted .taken) _ (c .1) (c .2) (c .3)) in
+      (c .0, c .1, c .2, v, rw v (octets (c .0) (c .1) _))
+
+  module _ (l₁ l₂ : Lent) (b₁ b₂ : Bench) (p : Leaves l b i l₁ b₁) (q : Leaves l b i l₂ b₂) where
+    same-lane : (k : ℕ) → k < N l i → laneIn l (b₁ .vectors) (targetOf i) (L i) k ≡ laneIn l (b₂ .vectors) (targetOf i) (L i) k
+    same-lane k h =
+        let a = ready .defined .accepted in
+        let long = ready .defined .long in
+        let fine = in-range-of w i (ready .defined .reads) in
+        ⊎-elim
+        (λ t.
+        let e = k % plan .elements in
+        let u = there-takes l (b .scalars) (a .multiple) (a .least) i fine long k h t in
+        let c = contains e (taken-active l (b .scalars) (a .multiple) (a .least) i k e h u) in
+        extended-once (signOf i) _ _ _ _ _ (p .lane k e h u (byte e) c) (q .lane k e h u (byte e) c))
+        (λ t.
+        let none : (e : ℕ) → Takes l i k e → ⊥ = λ e u. never (takes-there l (b .scalars) (a .multiple) (a .least) i fine long k e h u .0) t in
+        only-one (p .zero k h none) (q .zero k h none))
+        (true-or-false (takes plan (governing l plan) k))
+
+    -- a byte of the destination is a digit of its lane
+    in-lane : (j : ℕ) → j < n → getD (b₁ .vectors) (targetOf i * n + j) 0 ≡ getD (b₂ .vectors) (targetOf i * n + j) 0
+    in-lane j h =
+        let t = targetOf i * n in
+        let k = j / L i in
+        let o = lane-of (laneOf i) (l .settings .vl) j (ready .defined .accepted .multiple) h in
+        let there : (x : ℕ) → x < L i → k * L i + x < n = λ x u. whole (laneOf i) (l .settings .vl) k x (ready .defined .accepted .multiple) (o .0) u in
+        let at : t + k * L i + j % L i ≡ t + j = omega (arith, div-add-mod' j (L i)) in
+        rw at at (little-tells (λ x. getD (b₁ .vectors) x 0) (λ x. getD (b₂ .vectors) x 0) (t + k * L i) (t + k * L i) (L i)
+        (λ x u. rw add-assoc (p .bytes (k * L i + x) (there x u))) (λ x u. rw add-assoc (q .bytes (k * L i + x) (there x u))) (same-lane k (o .0)) (j % L i) (o .1))
+
+    same-byte : (j : ℕ) → getD (b₁ .vectors) j 0 ≡ getD (b₂ .vectors) j 0
+    same-byte j =
+        ⊎-elim
+        (λ t. let h = ltb-true j (targetOf i * n) t in only-one (p .below j h) (q .below j h))
+        (λ t.
+        let h = ltb-false j (targetOf i * n) t in
+        ⊎-elim
+        (λ u. let g = leb-true (suc (targetOf i) * n) j u in only-one (p .above j g) (q .above j g))
+        (λ u.
+        let g = leb-false (suc (targetOf i) * n) j u in
+        let at : targetOf i * n + (j - targetOf i * n) ≡ j = omega arith in
+        rw at at (in-lane (j - targetOf i * n) (omega (arith, suc-mul (targetOf i) n))))
+        (true-or-false (leb (suc (targetOf i) * n) j)))
+        (true-or-false (ltb j (targetOf i * n)))
+
+    -- a scalar is PC, the base where it is written back, or another
+    same-other : (k : ℕ) → (k ≡ 32 → ⊥) → scalar (b₁ .scalars) k ≡ scalar (b₂ .scalars) k
+    same-other k pc =
+        ⊎-elim
+        (λ t.
+        let d = back-adds (l .settings .vl) (b .scalars) i t in
+        ⊎-elim
+        (λ u. let e = eqb-true k (baseOf i) u in rw e (only-one (p .base (d .0) (d .1)) (q .base (d .0) (d .1))))
+        (λ u. let ne = eqb-false k (baseOf i) u in only-one (p .others k pc (λ a h e. ne e)) (q .others k pc (λ a h e. ne e)))
+        (true-or-false (eqb k (baseOf i))))
+        (λ t.
+        let kept : (a : ℕ) → Adds (b .scalars) i a → k ≡ baseOf i → ⊥ = λ a h e. never (adds-back (l .settings .vl) (b .scalars) i a h .0) t in
+        only-one (p .others k pc kept) (q .others k pc kept))
+        (true-or-false (plan .back))
+
+    same-scalar : (k : ℕ) → scalar (b₁ .scalars) k ≡ scalar (b₂ .scalars) k
+    same-scalar k =
+        ⊎-elim (λ t. let e = eqb-true k 32 t in rw e (only-one (p .pc) (q .pc))) (λ t. same-other k (eqb-false k 32 t)) (true-or-false (eqb k 32))
+
+    pub determined : (l₁ ≡ l₂) × (b₁ ≡ b₂)
+    determined =
+        let z = ext-getD 0 (b₁ .vectors) (b₂ .vectors) (only-one (p .vectors) (q .vectors)) (λ j _. same-byte j) in
+        let x = ext-getD 0 (b₁ .scalars) (b₂ .scalars) (only-one (p .scalars) (q .scalars)) (λ k _. same-scalar k) in
+        (only-one (p .lent) (q .lent), λ j. record { vectors = z j; scalars = x j; ram = only-one (p .ram) (q .ram) j })

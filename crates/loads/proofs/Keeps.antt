@@ -1,0 +1,34 @@
+-- What a step never changes, and what any answer but 0 leaves.
+use mathlib.Core.Path.{_≡_, refl}
+use Prim.Native.Nat.{ℕ}
+use borrow.Author.Tests.{ne-eqb}
+use Rattle.ground.proofs.Laws.{if-cases}
+use Rattle.loads.specs.Benches.{Lent, Bench, accepted}
+use Rattle.loads.specs.Answers.{report}
+use Rattle.loads.specs.Outcomes.{Outcome, outcomeOf}
+use Rattle.loads.specs.Steps.{Prepared, Stop, Go, prepared, carriedOut, stepOf}
+use Rattle.loads.proofs.Walks.{number}
+
+module _ (l : Lent) (w : ℕ) (b : Bench) where
+  -- "An answer other than 0 changes no byte or number of the bench."
+  abbrev Kept : Outcome → Type 0
+  Kept o = (o .report .number ≡ 0 → ⊥) → (o .lent ≡ l) × (o .bench ≡ b)
+
+  kept-by : (p : Prepared) → Kept (carriedOut l b p)
+  unfolding outcomeOf
+  kept-by (Stop r) h = (refl, rw (ne-eqb (r .number) 0 h))
+  kept-by (Go p) h = (refl, rw (ne-eqb _ 0 h))
+
+  pub kept : Kept (stepOf l w b)
+  unfolding stepOf
+  kept = if-cases Kept (accepted l b) _ _ (λ _. kept-by (prepared l (b .scalars) w)) (λ _ h. (refl, refl))
+
+  -- what is lent for reading is never changed
+  lent-by : (p : Prepared) → carriedOut l b p .lent ≡ l
+  unfolding outcomeOf
+  lent-by (Stop r) = refl
+  lent-by (Go p) = refl
+
+  pub lent-kept : stepOf l w b .lent ≡ l
+  unfolding stepOf
+  lent-kept = if-cases (λ (o : Outcome). o .lent ≡ l) (accepted l b) _ _ (λ _. lent-by (prepared l (b .scalars) w)) (λ _. refl)

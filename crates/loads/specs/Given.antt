@@ -1,0 +1,75 @@
+-- Demand 1, as it is stated: "When the bench says no", row by row, with the count, element and address of each answer.
+use Prim.Native.Nat.{ℕ, suc, _%_, _≤_, _<_}
+use mathlib.Core.Path.{_≡_}
+use mathlib.Core.Bool.{true, false}
+use Rattle.words.specs.Families.{readOf}
+use Rattle.words.specs.declared.Insn.{Insn}
+use Rattle.words.specs.declared.Insn.the-variants.{Replicate, ByElement, Contiguous, Block}
+use Rattle.words.specs.declared.Decoded.the-variants.{Outside, Undefined, Is}
+use Rattle.memory.specs.Areas.{Areas}
+use Rattle.loads.specs.Benches.{Lent, Bench, areas}
+use Rattle.loads.specs.Answers.{Report, report}
+use Rattle.loads.specs.Terms.{scalar}
+use Rattle.loads.specs.Said.{Accepted, m, baseOf, Active, Checks, byteAt, CanRead, Missing, Forbidden}
+
+-- byte k of active element e is the first that is bad so: every byte of the active elements before it, and every byte of e
+-- before it, can be read
+pub record FirstBad (Bad : Areas → ℕ → Type 0) (l : Lent) (b : Bench) (i : Insn) (e k : ℕ) : Type 0 where
+  pub active : Active l i e
+  pub within : k < m i
+  pub bad : Bad (areas l b) (byteAt l (b .scalars) i e k)
+  pub before : (f : ℕ) → f < e → Active l i f → (j : ℕ) → j < m i → CanRead (areas l b) (byteAt l (b .scalars) i f j)
+  pub below : (j : ℕ) → j < k → CanRead (areas l b) (byteAt l (b .scalars) i e j)
+
+-- n of the numbers below e have the property
+pub data Counted (P : ℕ → Type 0) : ℕ → ℕ → Type 0 where
+  start : Counted P 0 0
+  hit : {e n : ℕ} → P e → Counted P e n → Counted P (suc e) (suc n)
+  miss : {e n : ℕ} → (P e → ⊥) → Counted P e n → Counted P (suc e) n
+
+-- LD1RO
+abbrev pub Wide : Insn → Type 0
+Wide (Replicate q size back rn rt) = ⊥
+Wide (ByElement dtype imm6 pg rn zt) = ⊥
+Wide (Contiguous dtype offset pg rn zt) = ⊥
+Wide (Block wide msz offset pg rn zt) = wide ≡ true
+
+-- "LD1R with SIMD off; any other with SVE off" earns 4
+abbrev pub On : Lent → Insn → Type 0
+On l (Replicate q size back rn rt) = l .settings .simd ≡ true
+On l (ByElement dtype imm6 pg rn zt) = l .settings .sve ≡ true
+On l (Contiguous dtype offset pg rn zt) = l .settings .sve ≡ true
+On l (Block wide msz offset pg rn zt) = l .settings .sve ≡ true
+
+-- an accepted set-up whose word is a load that is defined and on
+pub record Defined (l : Lent) (w : ℕ) (b : Bench) (i : Insn) : Type 0 where
+  pub accepted : Accepted l b
+  pub reads : readOf w ≡ Is i
+  pub f64mm : Wide i → l .settings .f64mm ≡ true
+  pub on : On l i
+  pub long : Wide i → 256 ≤ l .settings .vl
+
+-- .. and the stack rule holds: "SP as base must be a multiple of 16"
+pub record Ready (l : Lent) (w : ℕ) (b : Bench) (i : Insn) : Type 0 where
+  pub defined : Defined l w b i
+  pub stack : baseOf i ≡ 31 → Checks l i → scalar (b .scalars) 31 % 16 ≡ 0
+
+abbrev pub AllReadable : Lent → Bench → Insn → Type 0
+AllReadable l b i = (e : ℕ) → Active l i e → (k : ℕ) → k < m i → CanRead (areas l b) (byteAt l (b .scalars) i e k)
+
+-- no load reaches an element of this number: 2,048 bits have 256 lanes of 8
+abbrev pub most : ℕ
+most = 256
+
+-- "When the bench says no", row by row: what a step tells, and when
+pub data Given (l : Lent) (w : ℕ) (b : Bench) : Report → Type 0 where
+  ran : {n : ℕ} (i : Insn) → Ready l w b i → AllReadable l b i → Counted (Active l i) most n → Given l w b (report 0 n 0 0)
+  set-up : (Accepted l b → ⊥) → Given l w b (report 1 0 0 0)
+  outside : Accepted l b → readOf w ≡ Outside → Given l w b (report 2 0 0 0)
+  undefined : Accepted l b → readOf w ≡ Undefined → Given l w b (report 3 0 0 0)
+  no-f64mm : (i : Insn) → Accepted l b → readOf w ≡ Is i → Wide i → l .settings .f64mm ≡ false → Given l w b (report 3 0 0 0)
+  switched-off : (i : Insn) → Accepted l b → readOf w ≡ Is i → (Wide i → l .settings .f64mm ≡ true) → (On l i → ⊥) → Given l w b (report 4 0 0 0)
+  short : (i : Insn) → Accepted l b → readOf w ≡ Is i → Wide i → l .settings .f64mm ≡ true → On l i → l .settings .vl < 256 → Given l w b (report 3 0 0 0)
+  stack : (i : Insn) → Defined l w b i → baseOf i ≡ 31 → Checks l i → (scalar (b .scalars) 31 % 16 ≡ 0 → ⊥) → Given l w b (report 5 0 0 0)
+  no-memory : {n : ℕ} (i : Insn) (e k : ℕ) → Ready l w b i → FirstBad Missing l b i e k → Counted (Active l i) e n → Given l w b (report 6 n e (byteAt l (b .scalars) i e k))
+  denied : {n : ℕ} (i : Insn) (e k : ℕ) → Ready l w b i → FirstBad Forbidden l b i e k → Counted (Active l i) e n → Given l w b (report 7 n e (byteAt l (b .scalars) i e k))

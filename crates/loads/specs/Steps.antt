@@ -1,0 +1,95 @@
+-- One step, whole.
+use Prim.Native.Nat.{ℕ, _%_}
+use mathlib.Core.Path.{_≡_}
+use mathlib.Core.Bool.{Bool, false, not, _&&_}
+use mathlib.Core.List.{List, [], _∷_}
+use lib.Dec.{ltb, eqb}
+use Rattle.ground.specs.Choices.{if_then_else_, Row, _⇒_, firstOf}
+use Rattle.ground.specs.Lists.{anyBelow}
+use Rattle.words.specs.Families.{readOf}
+use Rattle.words.specs.declared.Insn.{Insn}
+use Rattle.words.specs.declared.Insn.the-variants.{Replicate, ByElement, Contiguous, Block}
+use Rattle.words.specs.declared.Decoded.{Decoded}
+use Rattle.words.specs.declared.Decoded.the-variants.{Outside, Undefined, Is}
+use Rattle.loads.specs.Benches.{Lent, Bench, accepted}
+use Rattle.loads.specs.Answers.{Report, reportOf, refusal}
+use Rattle.loads.specs.Terms.{scalar}
+use Rattle.loads.specs.Plans.{planOf}
+use Rattle.loads.specs.Lanes.{governing, wanted}
+use Rattle.loads.specs.Outcomes.{Outcome, answersOf, ended, outcomeOf}
+use Rattle.loads.specs.declared.Settings.{Settings}
+use Rattle.loads.specs.declared.StepResult.{StepResult}
+use Rattle.loads.specs.declared.Plan.{Plan}
+use Rattle.loads.specs.declared.Planned.{Planned}
+use Rattle.loads.specs.declared.Planned.the-variants as P
+use Rattle.loads.specs.declared.Answer.the-variants as A
+
+-- LD1RO
+abbrev pub isWide : Insn → Bool
+isWide (Replicate q size back rn rt) = false
+isWide (ByElement dtype imm6 pg rn zt) = false
+isWide (Contiguous dtype offset pg rn zt) = false
+isWide (Block wide msz offset pg rn zt) = wide
+
+-- "LD1R with SIMD off; any other with SVE off"
+abbrev pub switchedOn : Settings → Insn → Bool
+switchedOn s (Replicate q size back rn rt) = s .simd
+switchedOn s (ByElement dtype imm6 pg rn zt) = s .sve
+switchedOn s (Contiguous dtype offset pg rn zt) = s .sve
+switchedOn s (Block wide msz offset pg rn zt) = s .sve
+
+-- the SP check is made: "LD1R always checks. The others check only when one of the lanes they consult is active"
+unfoldable pub checksStack : Plan → List ℕ → Bool
+checksStack p pred = anyBelow (wanted p pred) (p .elements)
+
+-- .. and fails: "SP as base must be a multiple of 16"
+unfoldable pub stackFails : List ℕ → Plan → List ℕ → Bool
+stackFails x p pred = eqb (p .base) 31 && checksStack p pred && not (eqb (scalar x 31 % 16) 0)
+
+-- "3 from the word and F64MM, 4, 3 for short VL": each with its answer
+unfoldable pub refusals : Settings → Insn → List (Row Planned)
+refusals s i =
+    (isWide i && not (s .f64mm) ⇒ P.Stop A.Undefined)
+    ∷ (not (switchedOn s i) ⇒ P.Stop A.SwitchedOff)
+    ∷ (isWide i && ltb (s .vl) 256 ⇒ P.Stop A.Undefined)
+    ∷ []
+
+unfoldable pub plannedLoad : Settings → List ℕ → Insn → Planned
+plannedLoad s x i = firstOf (refusals s i) (P.Go (planOf (s .vl) x i))
+
+abbrev pub plannedBy : Settings → List ℕ → Decoded → Planned
+plannedBy s x Outside = P.Stop A.Outside
+plannedBy s x Undefined = P.Stop A.Undefined
+plannedBy s x (Is i) = plannedLoad s x i
+
+-- what a word is about to do: no predicate and no memory is in sight
+unfoldable pub planned : Settings → List ℕ → ℕ → Planned
+planned s x w = plannedBy s x (readOf w)
+
+-- a refusal, or the plan to carry out
+pub data Prepared : Type 0 where
+  Stop : Report → Prepared
+  Go : Plan → Prepared
+
+-- .. then "5", by the governing predicate
+abbrev pub atStack : Lent → List ℕ → Planned → Prepared
+atStack l x (P.Stop a) = Stop (reportOf (record { count = 0; answer = a }))
+atStack l x (P.Go p) = if stackFails x p (governing l p) then Stop (refusal 5) else Go p
+
+unfoldable pub prepared : Lent → List ℕ → ℕ → Prepared
+prepared l x w = atStack l x (planned (l .settings) x w)
+
+abbrev pub refused : Report → Lent → Bench → Outcome
+refused r l b = ended r l b b
+
+abbrev pub carriedOut : Lent → Bench → Prepared → Outcome
+carriedOut l b (Stop r) = refused r l b
+carriedOut l b (Go p) = outcomeOf (answersOf l b p) l b p
+
+unfoldable pub stepOf : Lent → ℕ → Bench → Outcome
+stepOf l w b = if accepted l b then carriedOut l b (prepared l (b .scalars) w) else refused (refusal 1) l b
+
+-- What one step promises: its result in the paper's numbers, with the whole bench as it is left, is what the definition says of
+-- the bench as it was.
+abbrev pub StepPromise : Lent → ℕ → Bench → StepResult → Lent → Bench → Type 0
+StepPromise l w b r l′ b′ = _≡_ {A = Outcome} (record { report = reportOf r; lent = l′; bench = b′ }) (stepOf l w b)

@@ -1,0 +1,119 @@
+// What a step is told in: the settings, what a load is about to do, and how a step ends.
+use ground::Size;
+use memory::Address;
+ghost use mathlib.Core.Path.{_≡_};
+ghost use Rattle.loads.specs.Benches.{lengthAllowed};
+ghost use Rattle.loads.specs.Answers.{numberOf, elementOf, addressOf};
+
+// The vector length in bits, and the switches.
+pub struct Settings {
+    pub vl: u64,
+    pub simd: bool,
+    pub sve: bool,
+    pub f64mm: bool,
+}
+
+// Whether a vector length is allowed.
+pub fn allowed(vl: u64) -> bool
+    ensures { λ r. ⌜ r ≡ lengthAllowed vl ⌝ }
+{
+    (vl % 128 == 0) & (128 <= vl) & (vl <= 2048)
+}
+
+// How a step ended. A fault carries the first bad byte's address and its element's number.
+pub enum Answer {
+    Ran,
+    SetUp,
+    Outside,
+    Undefined,
+    SwitchedOff,
+    Stack,
+    NoMemory(Address, u64),
+    Denied(Address, u64),
+}
+
+// A step's result: the count of element reads beside the answer.
+pub struct StepResult {
+    pub count: u64,
+    pub answer: Answer,
+}
+
+impl Answer {
+    // The scope of work's number for the answer.
+    pub fn number(self) -> u64
+        ensures { λ r. ⌜ r ≡ numberOf self ⌝ }
+    {
+        match self {
+            Answer::Ran => 0,
+            Answer::SetUp => 1,
+            Answer::Outside => 2,
+            Answer::Undefined => 3,
+            Answer::SwitchedOff => 4,
+            Answer::Stack => 5,
+            Answer::NoMemory(_, _) => 6,
+            Answer::Denied(_, _) => 7,
+        }
+    }
+
+    // The element that a fault names, and 0 where there is none.
+    pub fn element(self) -> u64
+        ensures { λ r. ⌜ r ≡ elementOf self ⌝ }
+    {
+        match self {
+            Answer::Ran => 0,
+            Answer::SetUp => 0,
+            Answer::Outside => 0,
+            Answer::Undefined => 0,
+            Answer::SwitchedOff => 0,
+            Answer::Stack => 0,
+            Answer::NoMemory(_, e) => e,
+            Answer::Denied(_, e) => e,
+        }
+    }
+
+    // The address that a fault names, and 0 where there is none.
+    pub fn address(self) -> Address
+        ensures { λ r. ⌜ r .0 ≡ addressOf self ⌝ }
+    {
+        match self {
+            Answer::Ran => Address(0),
+            Answer::SetUp => Address(0),
+            Answer::Outside => Address(0),
+            Answer::Undefined => Address(0),
+            Answer::SwitchedOff => Address(0),
+            Answer::Stack => Address(0),
+            Answer::NoMemory(a, _) => a,
+            Answer::Denied(a, _) => a,
+        }
+    }
+}
+
+// Which predicate bits decide whether a lane takes its element: none; the lane's own; the element's.
+pub enum Rule {
+    Always,
+    LaneBit,
+    ElementBit,
+}
+
+// What a load is about to do, with no memory in sight. Element e is read at start + e × size. Lane l of the first `filled`
+// takes element l mod `elements`, where the rule lets it; every other lane becomes zero.
+pub struct Plan {
+    pub start: Address,
+    pub size: Size,
+    pub lane: Size,
+    pub signed: bool,
+    pub elements: u64,
+    pub filled: u64,
+    pub rule: Rule,
+    pub pg: u32,
+    pub base: u32,
+    pub target: u32,
+    pub back: bool,
+    pub amount: u64,
+}
+
+// What a word is about to do: the answer that stops it, or the plan to carry out.
+pub enum Planned {
+    Stop(Answer),
+    Go(Plan),
+}
