@@ -1,0 +1,3 @@
+-- What the proofs of the plans share, and the laws of `prepare`.
+pub mod Bounds
+pub mod Prepares

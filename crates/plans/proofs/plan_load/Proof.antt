@@ -1,0 +1,20 @@
+-- `plan_load` meets its contract: its tests are the definition's, in their order.
+use mathlib.Core.Path.{sym, ap, _∙_}
+use Rattle.loads.specs.Steps.{refusals, plannedLoad}
+use Rattle.loads.specs.declared.Planned.the-variants.{Go}
+use Rattle.plans.proofs.plan_load.Statement.{statement}
+use Rattle.plans.proofs.plan_load.Tie as tie
+
+pub plan-load-spec : {M : Type 1} → statement M
+unfolding plannedLoad refusals
+plan-load-spec =
+    tie.close (tie.spec (λ c κs. tt)
+    (λ c. rw (rw (c .before .before .is-wide .ensures) at (c .if1 .taken)))
+    (λ c κs. tt)
+    (λ c. rw (rw (c .before .before .before .before .is-wide .ensures) at (c .before .before .if1 .left), sym (c .before .switched-off .ensures) ∙ c .if2 .taken))
+    (λ c κs. tt)
+    (λ c. rw (rw (c .before .before .before .before .before .before .before .is-wide .ensures) at (c .before .before .before .before .before .if1 .left), sym (c .before .before .before .before .switched-off .ensures) ∙ c .before .before .before .if2 .left, rw (c .before .before .is-wide2 .ensures) at (c .if3 .taken)))
+    (λ c κs. c .before .before .before .before .before .before .before .before .before .pre)
+    (λ c.
+    ap Go (c .plan-of .ensures)
+    ∙ rw (rw (c .before .before .before .before .before .before .before .before .is-wide .ensures) at (c .before .before .before .before .before .before .if1 .left), sym (c .before .before .before .before .before .switched-off .ensures) ∙ c .before .before .before .before .if2 .left, rw (c .before .before .before .is-wide2 .ensures) at (c .before .if3 .left))))

@@ -1,0 +1,19 @@
+-- `replicate` meets its contract: its bytes are the definition's in either arm, and a size is no 0 to divide by.
+use mathlib.Core.Path.{_≡_, _∙_}
+use mathlib.Core.Logic.{⊎-elim}
+use lib.Dec.{eqb}
+use borrow.Author.Tests.{eq-eqb, ne-eqb}
+use Rattle.ground.specs.Choices.{if_then_else_}
+use Rattle.ground.proofs.Sizes.{bytes-some}
+use Rattle.plans.proofs.replicate.Statement.{statement}
+use Rattle.plans.proofs.replicate.Tie as tie
+
+chosen : (c : tie.Joined1) → c .if1 .bytes ≡ (if eqb (c .before .before .args .q) 1 then 16 else 8)
+chosen c = ⊎-elim (λ w. w .1 ∙ rw (eq-eqb _ _ (w .0 .taken))) (λ w. w .1 ∙ rw (ne-eqb _ _ (w .0 .left))) (c .if1 .came)
+
+pub replicate-spec : {M : Type 1} → statement M
+replicate-spec =
+    tie.close (tie.spec (λ c κs. tt) (λ c κs. tt)
+    (λ c. rw (c .before .bytes .ensures) (bytes-some (c .before .before .before .before .before .args .size)))
+    (λ c κs. tt) (λ c κs. tt)
+    (λ c. rw (chosen (c .before .before .before .before .before), c .before .before .before .bytes .ensures, c .before .before .before .before .scalar .ensures, c .before .writes .ensures, c .amount .ensures)))

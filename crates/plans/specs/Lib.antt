@@ -1,0 +1,2 @@
+-- What `prepare` promises.
+pub mod Prepares

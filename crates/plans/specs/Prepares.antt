@@ -1,0 +1,13 @@
+-- What a word is about to do, for any settings: a vector length that is not allowed earns 1, as a set-up with it does.
+use Prim.Native.Nat.{ℕ}
+use mathlib.Core.List.{List}
+use Rattle.ground.specs.Choices.{if_then_else_}
+use Rattle.loads.specs.Benches.{lengthAllowed}
+use Rattle.loads.specs.Steps.{planned}
+use Rattle.loads.specs.declared.Settings.{Settings}
+use Rattle.loads.specs.declared.Planned.{Planned}
+use Rattle.loads.specs.declared.Planned.the-variants.{Stop}
+use Rattle.loads.specs.declared.Answer.the-variants.{SetUp}
+
+unfoldable pub plannedFor : Settings → List ℕ → ℕ → Planned
+plannedFor s x w = if lengthAllowed (s .vl) then planned s x w else Stop SetUp
