@@ -1,0 +1,7 @@
+-- The laws of the lane window.
+pub mod Turns
+pub mod Patterns
+pub mod Tests
+pub mod Places
+pub mod Windows
+pub mod Determined

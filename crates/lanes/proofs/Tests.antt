@@ -1,0 +1,73 @@
+-- The definition's tests, in document 01's words: there is such a lane exactly when it says so.
+use mathlib.Core.Path.{_≡_, refl}
+use mathlib.Core.Bool.{true, _||_}
+use mathlib.Core.List.{List}
+use mathlib.Core.Logic.{_↔_, inl, inr, ⊎-elim}
+use Prim.Native.Nat.{ℕ, _*_, _/_, _≤_, _<_}
+use lib.Dec.{T, ltb, leb, eqb, lit<, lit≤}
+use lib.ListN.{length}
+use borrow.Author.Tests.{leb-true, le-leb, ltb-true, lt-ltb, eqb-true, eq-eqb}
+use Rattle.ground.proofs.Laws.{all-of, all-hold, or-cases}
+use Rattle.loads.specs.Benches.{lengthTests, lengthAllowed}
+use Rattle.lanes.specs.Lanes.{widthFits, laneTests, laneThere}
+use Rattle.lanes.specs.Said.{At, There}
+use Rattle.lanes.specs.declared.Kind.{Kind}
+use Rattle.lanes.specs.declared.Kind.the-variants.{Whole, Single, Double}
+
+pub length-most : (vl : ℕ) → lengthAllowed vl ≡ true → vl ≤ 2048
+length-most vl h = leb-true _ _ (all-of (lengthTests vl) h 2)
+
+pub width-exactly : (kind : Kind) (width : ℕ) → (widthFits kind width ≡ true) ↔ At kind width
+width-exactly Whole width = (
+  λ h.
+      or-cases ((eqb width 8 || eqb width 16) || eqb width 32) _ h
+      (λ h. or-cases (eqb width 8 || eqb width 16) _ h
+      (λ h. or-cases (eqb width 8) _ h (λ h. inl (eqb-true _ _ h)) (λ h. inr (inl (eqb-true _ _ h))))
+      (λ h. inr (inr (inl (eqb-true _ _ h)))))
+      (λ h. inr (inr (inr (eqb-true _ _ h)))),
+  ⊎-elim (λ e. rw e refl) (⊎-elim (λ e. rw e refl) (⊎-elim (λ e. rw e refl) (λ e. rw e refl))),
+)
+width-exactly Single width = (eqb-true _ _, eq-eqb _ _)
+width-exactly Double width = (eqb-true _ _, eq-eqb _ _)
+
+-- a width that fits is 1 to 8 whole bytes
+pub record Bytes (width : ℕ) : Type 0 where
+  pub some : 0 < width
+  pub whole : 8 * (width / 8) ≡ width
+  pub word : width / 8 ≤ 8
+
+is : (n : ℕ) → T (ltb 0 n) → 8 * (n / 8) ≡ n → T (leb (n / 8) 8) → {width : ℕ} → width ≡ n → Bytes width
+is n s w b e = rw e (record { some = lit< s; whole = w; word = lit≤ b })
+
+pub in-bytes : (kind : Kind) (width : ℕ) → At kind width → Bytes width
+in-bytes Whole width h =
+    ⊎-elim (is 8 tt refl tt) (⊎-elim (is 16 tt refl tt) (⊎-elim (is 32 tt refl tt) (is 64 tt refl tt))) h
+in-bytes Single width e = is 32 tt refl tt e
+in-bytes Double width e = is 64 tt refl tt e
+
+module _ (vl : ℕ) (z : List ℕ) (register : ℕ) (kind : Kind) (width lane : ℕ) where
+  said : laneThere vl (length z) register kind width lane ≡ true → There vl z register kind width lane
+  unfolding laneThere
+  said h =
+      let t = all-of (laneTests vl (length z) register kind width lane) h in
+      let v = all-of (lengthTests vl) (t 0) in
+      record {
+        multiple = eqb-true _ _ (v 0);
+        least = leb-true _ _ (v 1);
+        most = leb-true _ _ (v 2);
+        file = eqb-true _ _ (t 2);
+        named = leb-true _ _ (t 3);
+        sized = width-exactly kind width .0 (t 1);
+        counted = ltb-true _ _ (t 4);
+      }
+
+  met : There vl z register kind width lane → laneThere vl (length z) register kind width lane ≡ true
+  unfolding laneThere
+  met t =
+      all-hold (laneTests vl (length z) register kind width lane) (
+        all-hold (lengthTests vl) (eq-eqb _ _ (t .multiple), (le-leb _ _ (t .least), (le-leb _ _ (t .most), tt))),
+        (width-exactly kind width .1 (t .sized), (eq-eqb _ _ (t .file), (le-leb _ _ (t .named), (lt-ltb _ _ (t .counted), tt)))),
+      )
+
+  pub there-exactly : (laneThere vl (length z) register kind width lane ≡ true) ↔ There vl z register kind width lane
+  there-exactly = (said, met)
