@@ -1,0 +1,90 @@
+-- How an accepted set-up ends, from what the functions of the step found: at the stack rule, at a bad byte, or with the load done.
+use mathlib.Core.Path.{_≡_, refl, sym, ap, _∙_}
+use mathlib.Core.Bool.{Bool, true, false, _&&_}
+use mathlib.Core.List.{List}
+use Prim.Native.Nat.{ℕ, _+_, _-_, _*_, _/_}
+use native.Mathlib.Omega.{arith}
+use borrow.Author.Tests.{eq-eqb, ne-eqb}
+use lib.Dec.{eqb}
+use lib.ListN.{length, take, drop}
+use Rattle.ground.specs.Choices.{if_then_else_}
+use Rattle.ground.specs.Lists.{replaced}
+use Rattle.ground.proofs.Laws.{all-of}
+use Rattle.memory.specs.Areas.{areasTaken}
+use Rattle.loads.specs.Benches.{Lent, Bench, areas, acceptedTests, accepted}
+use Rattle.loads.specs.Answers.{numberOf, reportOf}
+use Rattle.loads.specs.Lanes.{governing}
+use Rattle.loads.specs.Outcomes.{answersOf, surveyOf, registerOf, scalarsAfter, benchAfter, outcomeOf}
+use Rattle.loads.specs.Steps.{stackFails, planned, prepared, stepOf, StepPromise}
+use Rattle.loads.specs.declared.Answer.{Answer}
+use Rattle.loads.specs.declared.Answer.the-variants.{SetUp, Stack}
+use Rattle.loads.specs.declared.Plan.{Plan}
+use Rattle.loads.specs.declared.Planned.{Planned}
+use Rattle.loads.specs.declared.Planned.the-variants as P
+use Rattle.loads.specs.declared.StepResult.{StepResult}
+use Rattle.plans.specs.Prepares.{plannedFor}
+use Rattle.plans.proofs.Prepares.{allowed-planned}
+use Rattle.bench.specs.Lends.{benchOf}
+use Rattle.bench.specs.Inside.{filesTaken, stacked, EndsAs}
+
+-- the predicate's part that is lent is the governing register
+pub governed : (l : Lent) (p : Plan)
+    → (let n = l .settings .vl / 64 in take (p .pg * n + n - p .pg * n) (drop (p .pg * n) (l .predicates)) ≡ governing l p)
+unfolding governing
+governed l p =
+    let n = l .settings .vl / 64 in
+    let k : p .pg * n + n - p .pg * n ≡ n = omega arith in
+    rw k
+
+-- a plan, from what was found of that part
+module _ (l : Lent) (b : Bench) (p : Plan) (pred : List ℕ) (e : pred ≡ governing l p) where
+  pub at-stack : stackFails (b .scalars) p pred ≡ true → (r : StepResult) → r ≡ record { count = 0; answer = Stack } → EndsAs (stacked p) l b r b
+  unfolding EndsAs stacked
+  at-stack h r q = rw (rw e at h) (rw q)
+
+  module _ (h : stackFails (b .scalars) p pred ≡ false) (r : StepResult) (found : reportOf r ≡ surveyOf (answersOf l b p) p pred) where
+    pub faulted : (numberOf (r .answer) ≡ 0 → ⊥) → EndsAs (stacked p) l b r b
+    unfolding EndsAs stacked outcomeOf
+    faulted ne = rw (rw e at h) (rw (← (rw e at found), ne-eqb _ 0 ne))
+
+    pub ran : numberOf (r .answer) ≡ 0 → (z x : List ℕ)
+        → (let n = l .settings .vl / 8 in z ≡ replaced (b .vectors) (p .target * n) n (registerOf (answersOf l b p) p pred n))
+        → x ≡ scalarsAfter p (b .scalars) → EndsAs (stacked p) l b r (benchOf z x (b .ram))
+    unfolding EndsAs stacked outcomeOf benchAfter
+    ran q z x filled written = rw (rw e at h) (rw (← (rw e at found), eq-eqb _ 0 q, filled, written, e))
+
+either : (t : Bool) (b : Bench) → b ≡ (if t then b else b)
+either true b = refl
+either false b = refl
+
+-- a word: the answer that stops it, or its plan
+module _ (l : Lent) (b : Bench) (w : ℕ) where
+  abbrev Word : StepResult → Bench → Type 0
+  Word r after = EndsAs (λ l b. prepared l (b .scalars) w) l b r after
+
+  -- an accepted length is allowed
+  pub prepares : accepted l b ≡ true → (q : Planned) → q ≡ plannedFor (l .settings) (b .scalars) w → planned (l .settings) (b .scalars) w ≡ q
+  unfolding accepted
+  prepares h q e = sym (e ∙ allowed-planned (l .settings) (b .scalars) w (all-of (acceptedTests l b) h 0))
+
+  pub stops : (a : Answer) → planned (l .settings) (b .scalars) w ≡ P.Stop a → (r : StepResult) → r ≡ record { count = 0; answer = a } → Word r b
+  unfolding EndsAs prepared
+  stops a h r q = rw (h, q) (ap (λ (after : Bench). record { report = reportOf (record { count = 0; answer = a }); lent = l; bench = after }) (either (eqb (numberOf a) 0) b))
+
+  pub goes : (p : Plan) → planned (l .settings) (b .scalars) w ≡ P.Go p → (r : StepResult) (after : Bench) → EndsAs (stacked p) l b r after → Word r after
+  unfolding EndsAs stacked prepared
+  goes p h r after e = rw h e
+
+  -- a step: "1", and then the word
+  pub accepts : (files areas′ : Bool) → files ≡ filesTaken (l .settings .vl) (length (b .vectors)) (length (l .predicates)) (length (b .scalars))
+      → areas′ ≡ areasTaken (areas l b) → accepted l b ≡ (files && areas′)
+  unfolding accepted
+  accepts files areas′ e h = rw (e, h)
+
+  pub steps : accepted l b ≡ true → (r : StepResult) (after : Bench) → Word r after → StepPromise l w b r l after
+  unfolding EndsAs stepOf
+  steps h r after e = rw h e
+
+  pub set-up : accepted l b ≡ false → (r : StepResult) → r ≡ record { count = 0; answer = SetUp } → StepPromise l w b r l b
+  unfolding stepOf
+  set-up h r q = rw h (rw q)

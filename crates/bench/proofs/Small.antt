@@ -1,0 +1,41 @@
+-- Products and quotients of an element's or a lane's number that are small enough.
+use Prim.Native.Nat.{ℕ, _+_, _*_, _/_, _%_, _≤_, _<_}
+use mathlib.Core.Path.{_≡_}
+use native.Mathlib.Nat.{suc-mul, mul-le-mul-right}
+use native.Mathlib.Omega.{arith}
+use Rattle.ground.specs.Sizes.{bytesOf}
+use Rattle.ground.specs.declared.Size.{Size}
+use Rattle.ground.specs.declared.Size.the-variants.{B8, B16, B32, B64}
+
+-- 256 elements or lanes of any size are at most 2,048 bytes
+pub small : (n : ℕ) (s : Size) → n ≤ 256 → n * bytesOf s ≤ 2048
+small n B8 h = omega arith
+small n B16 h = omega arith
+small n B32 h = omega arith
+small n B64 h = omega arith
+
+-- a register of whole 8 bytes is whole lanes of any size, and has room for each
+module _ (n l : ℕ) where
+  lanes-whole : (s : Size) → n % 8 ≡ 0 → n / bytesOf s ≤ l → n ≤ l * bytesOf s
+  lanes-whole B8 h k = omega arith
+  lanes-whole B16 h k = omega arith
+  lanes-whole B32 h k = omega arith
+  lanes-whole B64 h k = omega arith
+
+  lane-room : (s : Size) → l < n / bytesOf s → (l * bytesOf s + bytesOf s ≤ n) × (l < n)
+  lane-room B8 h = omega arith
+  lane-room B16 h = omega arith
+  lane-room B32 h = omega arith
+  lane-room B64 h = omega arith
+
+  -- .. of w bytes
+  module _ {w : ℕ} (s : Size) (e : w ≡ bytesOf s) where
+    pub whole : n % 8 ≡ 0 → n / w ≤ l → n ≤ l * w
+    whole = rw e (lanes-whole s)
+
+    pub room : l < n / w → (l * w + w ≤ n) × (l < n)
+    room = rw e (lane-room s)
+
+-- one of m parts of n bytes lies within them
+pub slot : (t m n : ℕ) → t < m → t * n + n ≤ m * n
+slot t m n h = omega (arith, suc-mul t n, mul-le-mul-right n h)

@@ -1,0 +1,3 @@
+-- What the contract of `step` is stated with, and what the contracts inside the crate name.
+pub mod Lends
+pub mod Inside

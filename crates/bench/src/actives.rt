@@ -1,0 +1,113 @@
+// Which lanes are active, which elements a load asks for and which lane takes one. No memory is in sight.
+use loads::Plan;
+use loads::Rule;
+ghost use mathlib.Core.Path.{_≡_};
+ghost use Prim.Native.Nat.{_%_, _≤_};
+ghost use lib.ListN.{length};
+ghost use Rattle.ground.specs.Lists.{anyBelow};
+ghost use Rattle.loads.specs.Lanes.{bitOf, laneActive, wanted, byRule, takes};
+ghost use Rattle.loads.specs.Sounds.{Sound};
+ghost use Rattle.loads.specs.Steps.{checksStack, stackFails};
+
+// Whether a bit of a predicate register is 1, lowest bit of each byte first. Past its end there is none.
+pub(crate) fn active(pred: &[u8], bit: u64) -> bool
+    ensures { λ r. ⌜ r ≡ bitOf (now (pred .entry)) bit ⌝ }
+{
+    let at = (bit / 8) as usize;
+    if at < pred.len() {
+        return (pred[at] >> ((bit % 8) as u8)) % 2 == 1;
+    }
+    false
+}
+
+// Whether lane l is active: one bit of its group decides, the lowest.
+fn lane_active(plan: Plan, pred: &[u8], l: u64) -> bool
+    requires { ⌜ l ≤ 256 ⌝ }
+    ensures { λ r. ⌜ r ≡ laneActive plan (now (pred .entry)) l ⌝ }
+{
+    let lane = plan.lane;
+    active(pred, l * lane.bytes())
+}
+
+// Whether one of the first n lanes is active.
+fn some_active(plan: Plan, pred: &[u8], n: u64) -> bool
+    requires { ⌜ n ≤ 256 ⌝ }
+    ensures { λ r. ⌜ r ≡ anyBelow (laneActive plan (now (pred .entry))) n ⌝ }
+{
+    let mut l: u64 = 0;
+    while l < n {
+        if lane_active(plan, pred, l) {
+            return true;
+        }
+        l += 1;
+    }
+    false
+}
+
+// Whether element e is asked for.
+pub(crate) fn asks(plan: Plan, pred: &[u8], e: u64) -> bool
+    requires { ⌜ Sound plan ⌝ }
+    requires { ⌜ e ≤ 256 ⌝ }
+    ensures { λ r. ⌜ r ≡ wanted plan (now (pred .entry)) e ⌝ }
+{
+    let rule = plan.rule;
+    match rule {
+        Rule::Always => true,
+        Rule::LaneBit => some_active(plan, pred, plan.filled),
+        Rule::ElementBit => lane_active(plan, pred, e),
+    }
+}
+
+// Whether the SP check is made: whether any element is asked for.
+fn checks(plan: Plan, pred: &[u8]) -> bool
+    requires { ⌜ Sound plan ⌝ }
+    ensures { λ r. ⌜ r ≡ checksStack plan (now (pred .entry)) ⌝ }
+{
+    let rule = plan.rule;
+    match rule {
+        Rule::Always => true,
+        Rule::LaneBit => some_active(plan, pred, plan.filled),
+        Rule::ElementBit => some_active(plan, pred, plan.elements),
+    }
+}
+
+// Whether the SP check is made and fails. SP is looked at before the lanes, which are many.
+pub(crate) fn stack_fails(x: &[u64], pred: &[u8], plan: Plan) -> bool
+    requires { ⌜ Sound plan ⌝ }
+    requires { ⌜ length (now x) ≡ 33 ⌝ }
+    ensures { λ r. ⌜ r ≡ stackFails (now (x .entry)) plan (now (pred .entry)) ⌝ }
+{
+    if plan.base == 31 {
+        if x[31] % 16 == 0 {
+            return false;
+        }
+        return checks(plan, pred);
+    }
+    false
+}
+
+// Whether the rule lets lane l take its element.
+fn lets(plan: Plan, pred: &[u8], l: u64) -> bool
+    requires { ⌜ Sound plan ⌝ }
+    requires { ⌜ l ≤ 256 ⌝ }
+    ensures { λ r. ⌜ r ≡ byRule (plan .rule) (laneActive plan (now (pred .entry)) l) (laneActive plan (now (pred .entry)) (l % plan .elements)) ⌝ }
+{
+    let rule = plan.rule;
+    match rule {
+        Rule::Always => true,
+        Rule::LaneBit => lane_active(plan, pred, l),
+        Rule::ElementBit => lane_active(plan, pred, l % plan.elements),
+    }
+}
+
+// Whether lane l takes its element.
+pub(crate) fn takes_element(plan: Plan, pred: &[u8], l: u64) -> bool
+    requires { ⌜ Sound plan ⌝ }
+    requires { ⌜ l ≤ 256 ⌝ }
+    ensures { λ r. ⌜ r ≡ takes plan (now (pred .entry)) l ⌝ }
+{
+    if l < plan.filled {
+        return lets(plan, pred, l);
+    }
+    false
+}

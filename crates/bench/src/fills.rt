@@ -1,0 +1,195 @@
+// What a load that ran writes: the destination register, the base and PC.
+use crate::actives;
+use crate::reads;
+use ground::Size;
+use loads::Plan;
+use memory::Map;
+use memory::Reading;
+ghost use mathlib.Core.Path.{_≡_};
+ghost use Prim.Native.Nat.{_+_, _-_, _*_, _/_, _%_, _^_, _≤_, _<_};
+ghost use lib.ListN.{length};
+ghost use Rattle.ground.specs.Lists.{listed, replaced};
+ghost use Rattle.ground.specs.Sizes.{bytesOf};
+ghost use Rattle.memory.specs.Addresses.{wrap};
+ghost use Rattle.memory.specs.Areas.{areasOf};
+ghost use Rattle.loads.specs.Outcomes.{answersIn, valueOf, extended, laneValue, registerOf, baseAfter, scalarsAfter};
+ghost use Rattle.loads.specs.Sounds.{Sound};
+
+// The largest number of a size.
+fn largest(size: Size) -> u64
+    ensures { λ r. ⌜ r ≡ 2 ^ (8 * bytesOf size) - 1 ⌝ }
+{
+    match size {
+        Size::B8 => 0xff,
+        Size::B16 => 0xffff,
+        Size::B32 => 0xffff_ffff,
+        Size::B64 => 0xffff_ffff_ffff_ffff,
+    }
+}
+
+// A number of one size in a lane of another: with its sign, or with zeros. Modulo 2^64, which no lane outgrows.
+fn extend(signed: bool, size: Size, lane: Size, v: u64) -> u64
+    requires { ⌜ bytesOf size ≤ bytesOf lane ⌝ }
+    ensures { λ r. ⌜ r ≡ wrap (extended signed (bytesOf size) (bytesOf lane) v) ⌝ }
+{
+    let most = largest(size);
+    if signed & (most / 2 < v) {
+        return std::num::wrapping_add_u64(v, largest(lane) - most);
+    }
+    v
+}
+
+// The value of element e. Where it cannot be read there is none, and no such load comes to be filled.
+fn value(
+    map: Map,
+    flash: &[u8],
+    flash_rights: &[u8],
+    ram: &[u8],
+    ram_rights: &[u8],
+    plan: Plan,
+    e: u64,
+) -> u64
+    requires { ⌜ e ≤ 256 ⌝ }
+    ensures { λ r. ⌜ r ≡ valueOf (answersIn (areasOf map (now (flash .entry)) (now («flash_rights» .entry)) (now (ram .entry)) (now («ram_rights» .entry))) plan e) ⌝ }
+{
+    match reads::element(map, flash, flash_rights, ram, ram_rights, plan, e) {
+        Reading::Value(v) => v,
+        Reading::Nowhere(_) => 0,
+        Reading::Denied(_) => 0,
+    }
+}
+
+// What lane l becomes: the element that it takes, extended, or zero. A lane that takes none looks at no memory.
+fn lane_value(
+    map: Map,
+    flash: &[u8],
+    flash_rights: &[u8],
+    ram: &[u8],
+    ram_rights: &[u8],
+    pred: &[u8],
+    plan: Plan,
+    l: u64,
+) -> u64
+    requires { ⌜ Sound plan ⌝ }
+    requires { ⌜ l ≤ 256 ⌝ }
+    ensures { λ r. ⌜ r ≡ wrap (laneValue (answersIn (areasOf map (now (flash .entry)) (now («flash_rights» .entry)) (now (ram .entry)) (now («ram_rights» .entry))) plan) plan (now (pred .entry)) l) ⌝ }
+{
+    if actives::takes_element(plan, pred, l) {
+        let v = value(
+            map,
+            flash,
+            flash_rights,
+            ram,
+            ram_rights,
+            plan,
+            l % plan.elements,
+        );
+        let size = plan.size;
+        let lane = plan.lane;
+        return extend(plan.signed, size, lane, v);
+    }
+    0
+}
+
+// Writes a number over a lane, lowest byte first.
+fn put(dst: &mut [u8], v: u64)
+    ensures { λ _. ⌜ now (dst .exit) ≡ listed (λ j. v / 256 ^ j % 256) 0 (length (now (dst .entry))) ⌝ }
+{
+    let n = dst.len();
+    let mut rest = v;
+    let mut j = 0;
+    while j < n {
+        dst[j] = (rest % 256) as u8;
+        rest /= 256;
+        j += 1;
+    }
+}
+
+// Fills a destination register of whole lanes, each lane's element read once.
+fn fill(
+    dst: &mut [u8],
+    map: Map,
+    flash: &[u8],
+    flash_rights: &[u8],
+    ram: &[u8],
+    ram_rights: &[u8],
+    pred: &[u8],
+    plan: Plan,
+)
+    requires { ⌜ Sound plan ⌝ }
+    requires { ⌜ (length (now dst) ≤ 256) × (length (now dst) % 8 ≡ 0) ⌝ }
+    ensures { λ _. ⌜ now (dst .exit) ≡ registerOf (answersIn (areasOf map (now (flash .entry)) (now («flash_rights» .entry)) (now (ram .entry)) (now («ram_rights» .entry))) plan) plan (now (pred .entry)) (length (now (dst .entry))) ⌝ }
+{
+    let lane = plan.lane;
+    let width = lane.bytes() as usize;
+    let lanes = dst.len() / width;
+    let mut l = 0;
+    while l < lanes {
+        let v = lane_value(
+            map,
+            flash,
+            flash_rights,
+            ram,
+            ram_rights,
+            pred,
+            plan,
+            l as u64,
+        );
+        let at = l * width;
+        let end = at + width;
+        put(&mut dst[at..end], v);
+        l += 1;
+    }
+}
+
+// Fills the plan's target, a middle part of a vector file of 32 registers of n bytes, lent on to be written.
+pub(crate) fn target(
+    z: &mut [u8],
+    n: usize,
+    map: Map,
+    flash: &[u8],
+    flash_rights: &[u8],
+    ram: &[u8],
+    ram_rights: &[u8],
+    pred: &[u8],
+    plan: Plan,
+)
+    requires { ⌜ Sound plan ⌝ }
+    requires { ⌜ (n ≤ 256) × (n % 8 ≡ 0) × (length (now z) ≡ 32 * n) ⌝ }
+    ensures { λ _. ⌜ now (z .exit) ≡ replaced (now (z .entry)) (plan .target * n) n (registerOf (answersIn (areasOf map (now (flash .entry)) (now («flash_rights» .entry)) (now (ram .entry)) (now («ram_rights» .entry))) plan) plan (now (pred .entry)) n) ⌝ }
+{
+    let at = plan.target as usize * n;
+    let end = at + n;
+    fill(
+        &mut z[at..end],
+        map,
+        flash,
+        flash_rights,
+        ram,
+        ram_rights,
+        pred,
+        plan,
+    );
+}
+
+// Writes the base back where the plan says so.
+fn base(x: &mut [u64], plan: Plan)
+    requires { ⌜ plan .base < length (now x) ⌝ }
+    ensures { λ _. ⌜ now (x .exit) ≡ baseAfter plan (now (x .entry)) ⌝ }
+{
+    if plan.back {
+        let at = plan.base as usize;
+        x[at] = std::num::wrapping_add_u64(x[at], plan.amount);
+    }
+}
+
+// Writes the base back and moves PC on. The base is never PC.
+pub(crate) fn scalars(x: &mut [u64], plan: Plan)
+    requires { ⌜ Sound plan ⌝ }
+    requires { ⌜ length (now x) ≡ 33 ⌝ }
+    ensures { λ _. ⌜ now (x .exit) ≡ scalarsAfter plan (now (x .entry)) ⌝ }
+{
+    let pc = std::num::wrapping_add_u64(x[32], 4);
+    base(x, plan);
+    x[32] = pc;
+}

@@ -1,0 +1,142 @@
+// One step of the bench: any word and any lent registers, predicates and memory, wrong sizes too, to one numbered answer.
+mod actives;
+mod fills;
+mod reads;
+
+use loads::Answer;
+use loads::Plan;
+use loads::Planned;
+use loads::Settings;
+use loads::StepResult;
+use memory::Map;
+ghost use mathlib.Core.Path.{_≡_};
+ghost use mathlib.Core.Bool.{true};
+ghost use Rattle.loads.specs.Benches.{accepted};
+ghost use Rattle.loads.specs.Sounds.{Sound};
+ghost use Rattle.loads.specs.Steps.{prepared, StepPromise};
+ghost use Rattle.loads.specs.declared.StepResult.{StepResult};
+ghost use Rattle.bench.specs.Lends.{lentOf, benchOf};
+ghost use Rattle.bench.specs.Inside.{filesTaken, stacked, EndsAs};
+
+// How a step ends: so many elements read, and the answer.
+fn ended(count: u64, answer: Answer) -> StepResult
+    ensures { λ r. ⌜ _≡_ {A = StepResult} r (record { count = count; answer = answer }) ⌝ }
+{
+    StepResult { count, answer }
+}
+
+// Whether the vector length is allowed, and files of z bytes, p bytes and x numbers are as long as it asks.
+fn files_taken(vl: u64, z: usize, p: usize, x: usize) -> bool
+    ensures { λ r. ⌜ r ≡ filesTaken vl z p x ⌝ }
+{
+    if loads::allowed(vl) {
+        let z_asked = 32 * (vl / 8);
+        let p_asked = 16 * (vl / 64);
+        return (z as u64 == z_asked) & (p as u64 == p_asked) & (x == 33);
+    }
+    false
+}
+
+// Carries a plan out: the stack rule, then a survey that only reads, and only where that is clear the destination, the base
+// and PC. The governing predicate's part is taken here, once.
+fn carry(
+    z: &mut [u8],
+    x: &mut [u64],
+    ram: &[u8],
+    settings: Settings,
+    p: &[u8],
+    map: Map,
+    flash: &[u8],
+    flash_rights: &[u8],
+    ram_rights: &[u8],
+    plan: Plan,
+) -> StepResult
+    requires { ⌜ accepted (lentOf settings (now p) map (now flash) (now «flash_rights») (now «ram_rights»)) (benchOf (now z) (now x) (now ram)) ≡ true ⌝ }
+    requires { ⌜ Sound plan ⌝ }
+    ensures { λ r. ⌜ EndsAs (stacked plan) (lentOf settings (now (p .entry)) map (now (flash .entry)) (now («flash_rights» .entry)) (now («ram_rights» .entry))) (benchOf (now (z .entry)) (now (x .entry)) (now (ram .entry))) r (benchOf (now (z .exit)) (now (x .exit)) (now (ram .entry))) ⌝ }
+{
+    let k = (settings.vl / 64) as usize;
+    let at = plan.pg as usize * k;
+    let end = at + k;
+    let pred = &p[at..end];
+    if actives::stack_fails(x, pred, plan) {
+        return ended(0, Answer::Stack);
+    }
+    let found = reads::survey(map, flash, flash_rights, ram, ram_rights, pred, plan);
+    let answer = found.answer;
+    if answer.number() == 0 {
+        let n = (settings.vl / 8) as usize;
+        fills::target(z, n, map, flash, flash_rights, ram, ram_rights, pred, plan);
+        fills::scalars(x, plan);
+        return found;
+    }
+    found
+}
+
+// A step of an accepted set-up: what stops the word, or what its plan does.
+fn accepted_step(
+    z: &mut [u8],
+    x: &mut [u64],
+    ram: &[u8],
+    word: u32,
+    settings: Settings,
+    p: &[u8],
+    map: Map,
+    flash: &[u8],
+    flash_rights: &[u8],
+    ram_rights: &[u8],
+) -> StepResult
+    requires { ⌜ accepted (lentOf settings (now p) map (now flash) (now «flash_rights») (now «ram_rights»)) (benchOf (now z) (now x) (now ram)) ≡ true ⌝ }
+    ensures { λ r. ⌜ EndsAs (λ l b. prepared l (b .scalars) word) (lentOf settings (now (p .entry)) map (now (flash .entry)) (now («flash_rights» .entry)) (now («ram_rights» .entry))) (benchOf (now (z .entry)) (now (x .entry)) (now (ram .entry))) r (benchOf (now (z .exit)) (now (x .exit)) (now (ram .entry))) ⌝ }
+{
+    match plans::prepare(settings, x, word) {
+        Planned::Stop(answer) => ended(0, answer),
+        Planned::Go(plan) => {
+            carry(
+                z,
+                x,
+                ram,
+                settings,
+                p,
+                map,
+                flash,
+                flash_rights,
+                ram_rights,
+                plan,
+            )
+        }
+    }
+}
+
+// One step. The vector file and the scalars are lent to be written, and RAM beside them; no load changes it.
+pub fn step(
+    z: &mut [u8],
+    x: &mut [u64],
+    ram: &[u8],
+    word: u32,
+    settings: Settings,
+    p: &[u8],
+    map: Map,
+    flash: &[u8],
+    flash_rights: &[u8],
+    ram_rights: &[u8],
+) -> StepResult
+    ensures { λ r. ⌜ (let l = lentOf settings (now (p .entry)) map (now (flash .entry)) (now («flash_rights» .entry)) (now («ram_rights» .entry)) in StepPromise l word (benchOf (now (z .entry)) (now (x .entry)) (now (ram .entry))) r l (benchOf (now (z .exit)) (now (x .exit)) (now (ram .entry)))) ⌝ }
+{
+    let files = files_taken(settings.vl, z.len(), p.len(), x.len());
+    if files & memory::taken(map, flash, flash_rights, ram, ram_rights) {
+        return accepted_step(
+            z,
+            x,
+            ram,
+            word,
+            settings,
+            p,
+            map,
+            flash,
+            flash_rights,
+            ram_rights,
+        );
+    }
+    ended(0, Answer::SetUp)
+}

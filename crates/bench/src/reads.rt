@@ -1,0 +1,74 @@
+// What memory says of the elements that a load asks for.
+use crate::actives;
+use crate::ended;
+use loads::Answer;
+use loads::Plan;
+use loads::StepResult;
+use memory::Address;
+use memory::Map;
+use memory::Reading;
+ghost use mathlib.Core.Path.{_≡_};
+ghost use Prim.Native.Nat.{_≤_};
+ghost use Rattle.memory.specs.Areas.{areasOf};
+ghost use Rattle.loads.specs.Answers.{reportOf};
+ghost use Rattle.loads.specs.Lanes.{elementAt};
+ghost use Rattle.loads.specs.Outcomes.{answersIn, surveyOf};
+ghost use Rattle.loads.specs.Sounds.{Sound};
+
+// Where element e lies.
+fn place(plan: Plan, e: u64) -> Address
+    requires { ⌜ e ≤ 256 ⌝ }
+    ensures { λ r. ⌜ r .0 ≡ elementAt plan e ⌝ }
+{
+    let start = plan.start;
+    let size = plan.size;
+    start.plus(e * size.bytes())
+}
+
+// What memory says of element e.
+pub(crate) fn element(
+    map: Map,
+    flash: &[u8],
+    flash_rights: &[u8],
+    ram: &[u8],
+    ram_rights: &[u8],
+    plan: Plan,
+    e: u64,
+) -> Reading
+    requires { ⌜ e ≤ 256 ⌝ }
+    ensures { λ r. ⌜ r ≡ answersIn (areasOf map (now (flash .entry)) (now («flash_rights» .entry)) (now (ram .entry)) (now («ram_rights» .entry))) plan e ⌝ }
+{
+    let size = plan.size;
+    let at = place(plan, e);
+    memory::element(map, flash, flash_rights, ram, ram_rights, at, size)
+}
+
+// The elements that are asked for, upward, to the first bad byte or to the end, with their count. Nothing is written.
+pub(crate) fn survey(
+    map: Map,
+    flash: &[u8],
+    flash_rights: &[u8],
+    ram: &[u8],
+    ram_rights: &[u8],
+    pred: &[u8],
+    plan: Plan,
+) -> StepResult
+    requires { ⌜ Sound plan ⌝ }
+    ensures { λ r. ⌜ reportOf r ≡ surveyOf (answersIn (areasOf map (now (flash .entry)) (now («flash_rights» .entry)) (now (ram .entry)) (now («ram_rights» .entry))) plan) plan (now (pred .entry)) ⌝ }
+{
+    let mut count: u64 = 0;
+    let mut e: u64 = 0;
+    while e < plan.elements {
+        if actives::asks(plan, pred, e) {
+            match element(map, flash, flash_rights, ram, ram_rights, plan, e) {
+                Reading::Nowhere(a) => return ended(count, Answer::NoMemory(a, e)),
+                Reading::Denied(a) => return ended(count, Answer::Denied(a, e)),
+                Reading::Value(_) => {
+                    count += 1;
+                }
+            }
+        }
+        e += 1;
+    }
+    ended(count, Answer::Ran)
+}
