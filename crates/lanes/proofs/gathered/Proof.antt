@@ -25,54 +25,18 @@ small c j = omega (arith, c .shared-slice-known .given (c .before .before .befor
 more : (c : tie.After-shared-slice-known Inv-loop μ-loop) → c .before .before .loop .i < 8
 more c = let w = c .before .before .before .pre .word in omega (arith, c .before .loop-test .taken)
 
-loop-holds : tie.Need-loop-holds Inv-loop μ-loop
-loop-holds c = (omega arith, refl)
-
-add-value : tie.Need-add-value Inv-loop μ-loop
-add-value c = let e = c .before .before .pre .ends in search needs
-
-shared-slice-read-value : tie.Need-shared-slice-read-value Inv-loop μ-loop
-shared-slice-read-value c = let e = c .before .before .before .pre .ends in omega (arith, c .before .loop-test .taken)
-
-cast-value : tie.Need-cast-value Inv-loop μ-loop
-cast-value c = let b = small c (c .before .before .loop .i) in record { fits = omega arith }
-
-mul-value : tie.Need-mul-value Inv-loop μ-loop
-mul-value c = let m = more c in record { fits = omega arith }
-
-shl-value : tie.Need-shl-value Inv-loop μ-loop
-shl-value c = let m = more c in omega arith
-
-add-value-2 : tie.Need-add-value-2 Inv-loop μ-loop
-add-value-2 c =
-    record { fits = rw (c .before .before .loop .inv .1) (in-word (byte c) (small c) (c .before .before .loop .i) (more c)) }
-
-add-i : tie.Need-add-i Inv-loop μ-loop
-add-i c = search needs
-
-loop-less : tie.Need-loop-less Inv-loop μ-loop
-loop-less c = search needs
-
-loop-again : tie.Need-loop-again Inv-loop μ-loop
-loop-again c =
-    (omega (arith, c .before .loop-test .taken), rw (c .before .before .loop .inv .1) (turned (byte c) (small c) (c .before .before .loop .i) (more c)))
-
-returns : tie.Need-returns Inv-loop μ-loop
-returns c =
-    let e : c .before .loop .i ≡ c .before .before .args .n = omega (arith, c .before .loop .inv .0, c .loop-test .left) in
-    c .before .loop .inv .1 ∙ ap (bytesAt (c .before .before .args .z .now) (c .before .before .args .at)) e
-
 pub gathered-spec : {M : Type 1} → statement M
 gathered-spec =
     tie.close (tie.spec Inv-loop μ-loop
-    loop-holds
-    add-value
-    shared-slice-read-value
-    cast-value
-    mul-value
-    shl-value
-    add-value-2
-    add-i
-    loop-less
-    loop-again
-    returns)
+    (λ c. (omega arith, refl))
+    (λ c. let e = c .before .before .pre .ends in search needs)
+    (λ c. let e = c .before .before .before .pre .ends in omega (arith, c .before .loop-test .taken))
+    (λ c. let b = small c (c .before .before .loop .i) in record { fits = omega arith })
+    (λ c. let m = more c in record { fits = omega arith })
+    (λ c. let m = more c in omega arith)
+    (λ c. record { fits = rw (c .before .before .loop .inv .1) (in-word (byte c) (small c) (c .before .before .loop .i) (more c)) })
+    (λ c. search needs) (λ c. search needs)
+    (λ c. (omega (arith, c .before .loop-test .taken), rw (c .before .before .loop .inv .1) (turned (byte c) (small c) (c .before .before .loop .i) (more c))))
+    (λ c.
+    let e : c .before .loop .i ≡ c .before .before .args .n = omega (arith, c .before .loop .inv .0, c .loop-test .left) in
+    c .before .loop .inv .1 ∙ ap (bytesAt (c .before .before .args .z .now) (c .before .before .args .at)) e))

@@ -1,8 +1,8 @@
 -- `amount` meets its contract: the test of Rm is the definition's.
 use mathlib.Core.Path.{_∙_}
 use borrow.Author.Tests.{eq-eqb, ne-eqb}
-use Rattle.plans.proofs.amount.Statement.{statement}
-use Rattle.plans.proofs.amount.Tie as tie
+use Rattle.plans.proofs.families.amount.Statement.{statement}
+use Rattle.plans.proofs.families.amount.Tie as tie
 
 pub amount-spec : {M : Type 1} → statement M
 amount-spec =

@@ -5,8 +5,8 @@ use lib.Dec.{eqb}
 use borrow.Author.Tests.{eq-eqb, ne-eqb}
 use Rattle.ground.specs.Choices.{if_then_else_}
 use Rattle.ground.proofs.Sizes.{bytes-some}
-use Rattle.plans.proofs.replicate.Statement.{statement}
-use Rattle.plans.proofs.replicate.Tie as tie
+use Rattle.plans.proofs.families.replicate.Statement.{statement}
+use Rattle.plans.proofs.families.replicate.Tie as tie
 
 chosen : (c : tie.Joined1) → c .if1 .bytes ≡ (if eqb (c .before .before .args .q) 1 then 16 else 8)
 chosen c = ⊎-elim (λ w. w .1 ∙ rw (eq-eqb _ _ (w .0 .taken))) (λ w. w .1 ∙ rw (ne-eqb _ _ (w .0 .left))) (c .if1 .came)

@@ -6,8 +6,8 @@ use mir.Syntax.{w64}
 use borrow.Author.Needs.{needs}
 use borrow.Author.Tests.{lt-ltb, le-ltb}
 use Rattle.loads.specs.Terms.{signed4}
-use Rattle.plans.proofs.signed.Statement.{statement}
-use Rattle.plans.proofs.signed.Tie as tie
+use Rattle.plans.proofs.families.signed.Statement.{statement}
+use Rattle.plans.proofs.families.signed.Tie as tie
 
 sub-result : tie.Need-sub-result
 sub-result c = rw (toZ-pos w64 {n = c .before .args .field} (omega arith), lt-ltb _ 16 (c .before .pre)) (record { sfits = omega arith })

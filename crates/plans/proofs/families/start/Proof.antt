@@ -3,8 +3,8 @@ use mathlib.Core.Path.{_∙_}
 use Prim.Native.Nat.{_<_}
 use borrow.Author.Needs.{needs}
 use Rattle.plans.proofs.Bounds.{wrap-once, product-fits, product}
-use Rattle.plans.proofs.start.Statement.{statement}
-use Rattle.plans.proofs.start.Tie as tie
+use Rattle.plans.proofs.families.start.Statement.{statement}
+use Rattle.plans.proofs.families.start.Tie as tie
 
 field : (c : tie.After-known-told) → c .before .offset .given .0 .0 < 16
 field c = rw (c .before .offset .given .1) at (c .before .before .before .before .before .pre .0)

@@ -5,8 +5,8 @@ use native.Mathlib.Omega.{arith}
 use Rattle.ground.proofs.Sizes.{bytes-some}
 use Rattle.loads.specs.Plans.{planOf}
 use Rattle.plans.proofs.Bounds.{block-few, blocks-few}
-use Rattle.plans.proofs.block.Statement.{statement}
-use Rattle.plans.proofs.block.Tie as tie
+use Rattle.plans.proofs.families.block.Statement.{statement}
+use Rattle.plans.proofs.families.block.Tie as tie
 
 few : (c : tie.After-bytes) → (16 ≤ c .before .block-bytes .result) × (c .before .block-bytes .result ≤ 32)
 few c = rw (c .before .block-bytes .ensures) (block-few (c .before .before .before .before .args .wide))

@@ -3,8 +3,8 @@ use mathlib.Core.Path.{sym}
 use borrow.Author.Needs.{needs}
 use denote.Ref.{now}
 use lib.ListN.{List·getD-eq-default}
-use Rattle.plans.proofs.scalar.Statement.{statement}
-use Rattle.plans.proofs.scalar.Tie as tie
+use Rattle.plans.proofs.families.scalar.Statement.{statement}
+use Rattle.plans.proofs.families.scalar.Tie as tie
 
 pub scalar-spec : {M : Type 1} → statement M
 scalar-spec =

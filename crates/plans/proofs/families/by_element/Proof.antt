@@ -2,8 +2,8 @@
 use mathlib.Core.Path.{_∙_}
 use Rattle.loads.specs.Plans.{planOf}
 use Rattle.plans.proofs.Bounds.{wrap-once}
-use Rattle.plans.proofs.by_element.Statement.{statement}
-use Rattle.plans.proofs.by_element.Tie as tie
+use Rattle.plans.proofs.families.by_element.Statement.{statement}
+use Rattle.plans.proofs.families.by_element.Tie as tie
 
 pub by-element-spec : {M : Type 1} → statement M
 unfolding planOf

@@ -2,8 +2,8 @@
 use native.Mathlib.Omega.{arith}
 use borrow.Author.Needs.{needs}
 use Rattle.ground.proofs.Sizes.{bytes-some, bytes-few}
-use Rattle.plans.proofs.lanes_in.Statement.{statement}
-use Rattle.plans.proofs.lanes_in.Tie as tie
+use Rattle.plans.proofs.families.lanes_in.Statement.{statement}
+use Rattle.plans.proofs.families.lanes_in.Tie as tie
 
 pub lanes-in-spec : {M : Type 1} → statement M
 lanes-in-spec =

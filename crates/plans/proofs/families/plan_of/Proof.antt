@@ -1,8 +1,8 @@
 -- `plan_of` meets its contract: each family's function makes the definition's plan.
 use mathlib.Core.Path.{_∙_}
 use Rattle.loads.specs.Plans.{planOf}
-use Rattle.plans.proofs.plan_of.Statement.{statement}
-use Rattle.plans.proofs.plan_of.Tie as tie
+use Rattle.plans.proofs.families.plan_of.Statement.{statement}
+use Rattle.plans.proofs.families.plan_of.Tie as tie
 
 pub plan-of-spec : {M : Type 1} → statement M
 unfolding planOf

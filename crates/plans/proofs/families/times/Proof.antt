@@ -1,7 +1,7 @@
 -- `times` meets its contract: a shift by k is the product with 2^k, at each size.
 use native.Mathlib.Omega.{arith}
-use Rattle.plans.proofs.times.Statement.{statement}
-use Rattle.plans.proofs.times.Tie as tie
+use Rattle.plans.proofs.families.times.Statement.{statement}
+use Rattle.plans.proofs.families.times.Tie as tie
 
 pub times-spec : {M : Type 1} → statement M
 times-spec =
