@@ -1,8 +1,7 @@
 -- A lane as code makes it: a number modulo 2^64, byte by byte, and what the definition has there.
-use mathlib.Core.Path.{_≡_, refl, ap, _∙_}
+use mathlib.Core.Path.{_≡_, refl}
 use mathlib.Core.List.{List, _++_}
 use Prim.Native.Nat.{ℕ, _+_, _-_, _*_, _/_, _%_, _^_, _≤_, _<_}
-use native.Mathlib.Nat.{zero-add}
 use native.Mathlib.Omega.{arith}
 use lib.Arith.{digits-div, digits-mod}
 use lib.Dec.{ltb, leb, lit<}
@@ -10,8 +9,8 @@ use Rattle.ground.specs.Lists.{listed}
 use Rattle.ground.specs.Sizes.{bytesOf}
 use Rattle.ground.specs.declared.Size.{Size}
 use Rattle.ground.specs.declared.Size.the-variants.{B8, B16, B32, B64}
-use Rattle.ground.proofs.Fills.{Filled, one-filled, part-length, back-in}
-use Rattle.ground.proofs.Laws.{length-listed, getD-listed, digit-mod}
+use Rattle.ground.proofs.Fills.{Filled, digits-filled}
+use Rattle.ground.proofs.Laws.{digit-mod}
 use Rattle.ground.proofs.Sizes.{bytes-few}
 use Rattle.memory.specs.Addresses.{wrap}
 use Rattle.memory.specs.declared.Reading.{Reading}
@@ -49,10 +48,7 @@ module _ (answer : ℕ → Reading) (p : Plan) (pred : List ℕ) where
       → ys ≡ listed (λ k. v / 256 ^ k % 256) 0 (length (take (l * w + w - l * w) (drop (l * w) xs)))
       → Filled (registerByte answer p pred) w n (take (l * w) xs ++ (ys ++ drop (l * w + w - l * w) (drop (l * w) xs))) (l + 1)
   lane-filled {w} {n} {l} {xs} wide s fits v e ys h =
-      let room : l * w + w ≤ length xs = rw (s .size) fits in
-      let bytes : List ℕ = listed (λ k. v / 256 ^ k % 256) 0 w in
-      rw (back-in xs ys bytes (l * w) w (h ∙ ap (listed (λ k. v / 256 ^ k % 256) 0) (part-length xs (l * w) w room)))
-      (one-filled s bytes (length-listed _ 0 w) fits
+      digits-filled s v fits
       (λ j k.
       let at : j < bytesOf (p .lane) = rw (← wide) k in
-      getD-listed (λ i. v / 256 ^ i % 256) 0 w j 0 k ∙ rw (zero-add, wide) (lane-byte l v j e at)))
+      rw wide (lane-byte l v j e at)) ys h

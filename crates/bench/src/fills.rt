@@ -6,9 +6,9 @@ use loads::Plan;
 use memory::Map;
 use memory::Reading;
 ghost use mathlib.Core.Path.{_≡_};
-ghost use Prim.Native.Nat.{_+_, _-_, _*_, _/_, _%_, _^_, _≤_, _<_};
+ghost use Prim.Native.Nat.{_+_, _-_, _*_, _%_, _^_, _≤_, _<_};
 ghost use lib.ListN.{length};
-ghost use Rattle.ground.specs.Lists.{listed, replaced};
+ghost use Rattle.ground.specs.Lists.{replaced};
 ghost use Rattle.ground.specs.Sizes.{bytesOf};
 ghost use Rattle.memory.specs.Addresses.{wrap};
 ghost use Rattle.memory.specs.Areas.{areasOf};
@@ -91,20 +91,6 @@ fn lane_value(
     0
 }
 
-// Writes a number over a lane, lowest byte first.
-fn put(dst: &mut [u8], v: u64)
-    ensures { λ _. ⌜ now (dst .exit) ≡ listed (λ j. v / 256 ^ j % 256) 0 (length (now (dst .entry))) ⌝ }
-{
-    let n = dst.len();
-    let mut rest = v;
-    let mut j = 0;
-    while j < n {
-        dst[j] = (rest % 256) as u8;
-        rest /= 256;
-        j += 1;
-    }
-}
-
 // Fills a destination register of whole lanes, each lane's element read once.
 fn fill(
     dst: &mut [u8],
@@ -137,7 +123,7 @@ fn fill(
         );
         let at = l * width;
         let end = at + width;
-        put(&mut dst[at..end], v);
+        ground::put(&mut dst[at..end], v);
         l += 1;
     }
 }

@@ -1,7 +1,7 @@
 -- A list that is filled from the front, by single elements or by parts that are lent on and come back.
-use Prim.Native.Nat.{ℕ, _+_, _-_, _*_, _≤_, _<_}
+use Prim.Native.Nat.{ℕ, _+_, _-_, _*_, _/_, _%_, _^_, _≤_, _<_}
 use mathlib.Core.Path.{_≡_, refl, sym, _∙_, ap}
-use mathlib.Core.List.{List, _++_}
+use mathlib.Core.List.{List, [], _∷_, _++_, append-assoc}
 use mathlib.Core.Logic.{⊎-elim}
 use native.Mathlib.Nat.{zero-add, zero-mul, suc-mul, add-comm}
 use native.Mathlib.Numerals.{add-one}
@@ -9,8 +9,8 @@ use native.Mathlib.Omega.{arith}
 use borrow.Author.Count.{below-more}
 use borrow.Author.Tests.{ltb-true, ltb-false}
 use lib.Dec.{ltb}
-use lib.ListN.{length, getD, set, take, drop, length-take, length-drop}
-use lib.Seq.{ext-getD, getD-set-same, getD-set-other, drop-drop}
+use lib.ListN.{length, getD, set, take, drop, length-append, length-take, length-drop}
+use lib.Seq.{ext-getD, getD-set-same, getD-set-other, drop-drop, take-take, take-append-le, drop-append-add, take-at, drop-at}
 use Rattle.ground.specs.Lists.{listed, replaced}
 use Rattle.ground.proofs.Laws.{true-or-false, length-listed, getD-listed, length-replaced, replaced-below, replaced-in}
 
@@ -38,6 +38,39 @@ back-in xs ys zs a n e =
     let k : a + (a + n - a) ≡ a + n = omega arith in
     rw (e, drop-drop, k)
 
+-- two parts that touch, the upper one put in after the lower one, and before it
+module _ (xs : List ℕ) (a n m : ℕ) (ys zs : List ℕ) (fits : a + n ≤ length xs) where
+  joined : take a xs ++ (ys ++ (zs ++ drop (a + n + m) xs)) ≡ replaced xs a (n + m) (ys ++ zs)
+  unfolding replaced
+  joined =
+      let at : a + n + m ≡ a + (n + m) = omega arith in
+      rw (at, append-assoc)
+
+  pub replaced-next : length ys ≡ n → replaced (replaced xs a n ys) (a + n) m zs ≡ replaced xs a (n + m) (ys ++ zs)
+  unfolding replaced
+  replaced-next size =
+      let below : List ℕ = take a xs ++ ys in
+      let long : length below ≡ a + n = simp (length-append, length-take, size) (omega arith) in
+      let inner : take a xs ++ (ys ++ drop (a + n) xs) ≡ below ++ drop (a + n) xs = sym (append-assoc (take a xs) ys (drop (a + n) xs)) in
+      let above : drop (a + n + m) (below ++ drop (a + n) xs) ≡ drop (a + n + m) xs =
+      ap (λ (k : ℕ). drop (k + m) (below ++ drop (a + n) xs)) (sym long) ∙ drop-append-add below (drop (a + n) xs) m ∙ drop-drop m (a + n) xs in
+      rw (inner, take-at below (drop (a + n) xs) (a + n) long, above, append-assoc) joined
+
+  pub replaced-before : replaced (replaced xs (a + n) m zs) a n ys ≡ replaced xs a (n + m) (ys ++ zs)
+  unfolding replaced
+  replaced-before =
+      let below : List ℕ = take (a + n) xs in
+      let long : length below ≡ a + n = simp length-take (omega arith) in
+      let rest : List ℕ = zs ++ drop (a + n + m) xs in
+      let first : take a (below ++ rest) ≡ take a xs = take-append-le a below rest (omega (arith, long)) ∙ take-take a (a + n) xs (omega arith) in
+      rw (first, drop-at below rest (a + n) long) joined
+
+-- a part from place 1 on, and the first element
+pub first-set : (xs : List ℕ) (m : ℕ) (ws : List ℕ) (v : ℕ) → 1 ≤ length xs → set (replaced xs 1 m ws) 0 v ≡ v ∷ (ws ++ drop (1 + m) xs)
+unfolding replaced
+first-set [] m ws v h = absurd (omega arith)
+first-set (x ∷ xs) m ws v h = refl
+
 -- a list of n elements in parts of w, the first l of which are filled
 pub record Filled (f : ℕ → ℕ) (w n : ℕ) (xs : List ℕ) (l : ℕ) : Type 0 where
   pub size : length xs ≡ n
@@ -64,6 +97,16 @@ module _ {f : ℕ → ℕ} {w n l : ℕ} {xs : List ℕ} (s : Filled f w n xs l)
           let j : i - l * w < w = omega arith in
           let at : l * w + (i - l * w) ≡ i = omega arith in
           rw at at (replaced-in xs (l * w) w ys size room (i - l * w) 0 j ∙ h (i - l * w) j)
+
+  -- .. as the digits of a number, in a part that was lent and came back
+  pub digits-filled : (v : ℕ) → l * w + w ≤ n → ((j : ℕ) → j < w → v / 256 ^ j % 256 ≡ f (l * w + j))
+      → (ys : List ℕ) → ys ≡ listed (λ k. v / 256 ^ k % 256) 0 (length (take (l * w + w - l * w) (drop (l * w) xs)))
+      → Filled f w n (take (l * w) xs ++ (ys ++ drop (l * w + w - l * w) (drop (l * w) xs))) (l + 1)
+  digits-filled v fits at ys h =
+      let room : l * w + w ≤ length xs = rw (s .size) fits in
+      let bytes : List ℕ = listed (λ k. v / 256 ^ k % 256) 0 w in
+      rw (back-in xs ys bytes (l * w) w (h ∙ ap (listed (λ k. v / 256 ^ k % 256) 0) (part-length xs (l * w) w room)))
+      (one-filled bytes (length-listed _ 0 w) fits (λ j k. getD-listed (λ i. v / 256 ^ i % 256) 0 w j 0 k ∙ rw zero-add (at j k)))
 
   pub all-filled : n ≤ l * w → xs ≡ listed f 0 n
   all-filled h = is-listed f xs n (s .size) (λ i k. s .so-far i (omega arith))

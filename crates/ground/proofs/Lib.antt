@@ -2,3 +2,5 @@
 pub mod Laws
 pub mod Sizes
 pub mod Fills
+pub mod Turns
+pub mod Unique

@@ -2,7 +2,7 @@
 use Prim.Native.Nat.{ℕ, zero, suc, _+_, _*_}
 use mathlib.Core.Bool.{Bool, false, _||_}
 use mathlib.Core.List.{List, [], _∷_, _++_}
-use lib.ListN.{take, drop}
+use lib.ListN.{getD, take, drop}
 use Rattle.ground.specs.Choices.{if_then_else_}
 
 -- f i, f (i + 1) and on, n of them
@@ -24,6 +24,10 @@ anyBelow f (suc n) = anyBelow f n || f n
 abbrev pub little : (ℕ → ℕ) → ℕ → ℕ → ℕ
 little f i zero = 0
 little f i (suc n) = f i + 256 * little f (i + 1) n
+
+-- the number that n bytes of a list make from a place on
+abbrev pub bytesAt : List ℕ → ℕ → ℕ → ℕ
+bytesAt s at n = little (λ j. getD s (at + j) 0) 0 n
 
 -- a list with n of its elements, from place a on, replaced
 unfoldable pub replaced : List ℕ → ℕ → ℕ → List ℕ → List ℕ

@@ -1,4 +1,8 @@
-// What every crate shares: the four sizes of an element in memory and of a lane.
+// What every crate shares: the four sizes of an element in memory and of a lane, and numbers as bytes.
+mod numbers;
+
+pub use numbers::number;
+pub use numbers::put;
 ghost use mathlib.Core.Path.{_≡_};
 ghost use Rattle.ground.specs.Sizes.{bytesOf, sizeOf};
 

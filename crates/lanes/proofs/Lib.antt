@@ -1,5 +1,4 @@
 -- The laws of the lane window.
-pub mod Turns
 pub mod Patterns
 pub mod Tests
 pub mod Places

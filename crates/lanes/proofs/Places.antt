@@ -3,13 +3,14 @@ use mathlib.Core.List.{List}
 use Prim.Native.Nat.{ℕ, _+_, _*_, _/_, _^_, _≤_, _<_}
 use native.Mathlib.Nat.{suc-mul, le-div-iff-mul-le, div-div-eq-div-mul, mul-le-mul-right}
 use native.Mathlib.Omega.{arith}
-use lib.ListN.{getD}
-use Rattle.lanes.specs.Lanes.{bytesAt, laneAt}
+use lib.ListN.{length, getD}
+use Rattle.ground.specs.Lists.{bytesAt}
+use Rattle.lanes.specs.Lanes.{laneAt}
 use Rattle.lanes.specs.Said.{There}
-use Rattle.lanes.specs.Inner.{Within, Fitting}
+use Rattle.lanes.specs.Inner.{Fitting}
 use Rattle.lanes.specs.declared.Kind.{Kind}
 use Rattle.lanes.proofs.Tests.{Bytes, width-exactly, in-bytes}
-use Rattle.lanes.proofs.Turns.{in-bits}
+use Rattle.ground.proofs.Turns.{in-bits}
 
 -- lane k of n bytes that are cut into lanes of b
 in-register : (n k b : ℕ) → 0 < b → k < n / b → k * b + b ≤ n
@@ -19,19 +20,19 @@ module _ {vl : ℕ} {z : List ℕ} {register : ℕ} {kind : Kind} {width lane : 
   pub bytes : Bytes width
   bytes = in-bytes kind width (t .sized)
 
-  pub within : Within z (laneAt vl register width lane) (width / 8)
+  within : laneAt vl register width lane + width / 8 ≤ length z
   within =
       let some = bytes .some in
       let whole = bytes .whole in
       let file = t .file in
       let below = in-register (vl / 8) lane (width / 8) (omega arith) (rw (div-div-eq-div-mul, whole) (t .counted)) in
-      record { word = bytes .word; ends = omega (arith, below, mul-le-mul-right (vl / 8) (t .named)) }
+      omega (arith, below, mul-le-mul-right (vl / 8) (t .named))
 
   pub in-word : laneAt vl register width lane < 2 ^ 64
   in-word =
       let file = t .file in
       let most = t .most in
-      let ends = within .ends in
+      let ends = within in
       omega arith
 
   pub fitting : ((k : ℕ) → getD z k 0 < 256) → Fitting kind width (bytesAt z (laneAt vl register width lane) (width / 8))

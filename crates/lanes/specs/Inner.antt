@@ -1,16 +1,9 @@
 -- What the lane window's own functions are given, by each other: no one else calls them.
-use Prim.Native.Nat.{ℕ, _+_, _^_, _≤_, _<_}
+use Prim.Native.Nat.{ℕ, _^_, _<_}
 use mathlib.Core.Path.{_≡_}
 use mathlib.Core.Bool.{true}
-use mathlib.Core.List.{List}
-use lib.ListN.{length}
 use Rattle.lanes.specs.Lanes.{widthFits}
 use Rattle.lanes.specs.declared.Kind.{Kind}
-
--- n bytes from a place on lie in the file, and make a number of 64 bits
-pub record Within (z : List ℕ) (at n : ℕ) : Type 0 where
-  pub word : n ≤ 8
-  pub ends : at + n ≤ length z
 
 -- the bits are those of a lane of a width that fits
 pub record Fitting (kind : Kind) (width bits : ℕ) : Type 0 where

@@ -3,10 +3,10 @@ use Prim.Native.Nat.{ℕ, _+_, _*_, _/_}
 use mathlib.Core.Bool.{Bool, _||_}
 use mathlib.Core.List.{List, [], _∷_}
 use lib.Dec.{leb, ltb, eqb}
-use lib.ListN.{length, getD}
+use lib.ListN.{length}
 use lib.Ieee.{Float, Format, binary32, binary64, ofBits, toBits, nanBits}
 use Rattle.ground.specs.Choices.{if_then_else_, allOf}
-use Rattle.ground.specs.Lists.{little}
+use Rattle.ground.specs.Lists.{bytesAt}
 use Rattle.loads.specs.Benches.{lengthAllowed}
 use Rattle.lanes.specs.declared.Kind.{Kind}
 use Rattle.lanes.specs.declared.Kind.the-variants as As
@@ -31,10 +31,6 @@ laneTests vl n register kind width lane =
 
 unfoldable pub laneThere : ℕ → ℕ → ℕ → Kind → ℕ → ℕ → Bool
 laneThere vl n register kind width lane = allOf (laneTests vl n register kind width lane)
-
--- the number that n bytes make from a place on, lowest byte first
-abbrev pub bytesAt : List ℕ → ℕ → ℕ → ℕ
-bytesAt z at n = little (λ j. getD z (at + j) 0) 0 n
 
 -- where the lane starts: register 0 first, and in a register lane 0
 abbrev pub laneAt : ℕ → ℕ → ℕ → ℕ → ℕ

@@ -3,8 +3,8 @@ use loads::allowed;
 ghost use mathlib.Core.Path.{_≡_};
 ghost use Prim.Native.Nat.{_<_, _^_};
 ghost use lib.Ieee.{binary32, binary64};
-ghost use Rattle.lanes.specs.Lanes.{widthFits, laneThere, laneAt, bytesAt, floatOf, shownAs, shownOf};
-ghost use Rattle.lanes.specs.Inner.{Within, Fitting};
+ghost use Rattle.lanes.specs.Lanes.{widthFits, laneThere, laneAt, floatOf, shownAs, shownOf};
+ghost use Rattle.lanes.specs.Inner.{Fitting};
 
 // How a lane is asked for.
 pub enum Kind {
@@ -50,20 +50,6 @@ fn place(vl: u64, register: u32, width: u32, lane: u64) -> u64
     (register as u64) * (vl / 8) + lane * ((width / 8) as u64)
 }
 
-// The number that n bytes of the file make from a place on, lowest byte first: one loop for every width.
-fn gathered(z: &[u8], at: usize, n: u64) -> u64
-    requires { ⌜ Within (now z) at n ⌝ }
-    ensures { λ r. ⌜ r ≡ bytesAt (now (z .entry)) at n ⌝ }
-{
-    let mut value: u64 = 0;
-    let mut i: u64 = 0;
-    while i < n {
-        value += (z[at + (i as usize)] as u64) << (8 * i);
-        i += 1;
-    }
-    value
-}
-
 // The float of 32 bits. Above the bits of infinity, whatever the sign, lie those of a NaN.
 fn single(bits: u32) -> Shown
     ensures { λ r. ⌜ r ≡ floatOf binary32 bits ⌝ }
@@ -104,7 +90,7 @@ pub fn show(vl: u64, z: &[u8], register: u32, kind: Kind, width: u32, lane: u64)
 {
     if there(vl, z.len(), register, kind, width, lane) {
         let at = place(vl, register, width, lane) as usize;
-        return told(kind, width, gathered(z, at, (width / 8) as u64));
+        return told(kind, width, ground::number(z, at, (width / 8) as usize));
     }
     Shown::NoLane
 }

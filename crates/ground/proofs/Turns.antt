@@ -1,12 +1,12 @@
--- One turn of `gathered`'s loop, over any bytes: a byte more makes the number of a digit more.
+-- One turn of `number`'s loop, over any bytes: a byte more makes the number of a digit more.
 use mathlib.Core.Path.{_≡_, sym}
 use Prim.Native.Nat.{ℕ, _+_, _*_, _%_, _^_, _≤_, _<_}
 use native.Mathlib.Nat.{zero-add, le-trans}
 use native.Mathlib.Numerals.{add-one}
 use native.Mathlib.Omega.{arith}
 use lib.Pow.{shl-exact, pow-mono}
 use Rattle.ground.specs.Lists.{little}
 use Rattle.ground.proofs.Laws.{little-more, little-below, pow-bytes}
 
 module _ (f : ℕ → ℕ) (small : (j : ℕ) → f j < 256) where
   -- n bytes make a number of 8 times n bits

@@ -6,9 +6,9 @@ use native.Mathlib.Numerals.{add-one}
 use native.Mathlib.Omega.{arith}
 use borrow.Author.Needs.{needs}
 use lib.ListN.{length, getD, length-set}
 use Rattle.ground.proofs.Fills.{is-listed, stored}
-use Rattle.bench.proofs.fills.put.Statement.{statement}
-use Rattle.bench.proofs.fills.put.Tie as tie
+use Rattle.ground.proofs.numbers.put.Statement.{statement}
+use Rattle.ground.proofs.numbers.put.Tie as tie
 
 abbrev Inv-loop : tie.InvT-loop
 Inv-loop dst₀ v n rest₀ j₀ dst rest j =
