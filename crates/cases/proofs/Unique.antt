@@ -1,0 +1,15 @@
+-- No two results, and no two outcomes, meet the promises of the byte format.
+use mathlib.Core.Path.{_≡_}
+use mathlib.Core.List.{List}
+use Prim.Native.Nat.{ℕ}
+use Rattle.ground.proofs.Laws.{only-one}
+use Rattle.cases.specs.Heads.{openedOf}
+use Rattle.cases.specs.Answers.{After, AnswerPromise}
+use Rattle.cases.specs.declared.Opened.{Opened}
+use Rattle.cases.specs.declared.Answered.{Answered}
+
+pub head-unique : (s : List ℕ) (a b : Opened) → a ≡ openedOf s → b ≡ openedOf s → a ≡ b
+head-unique s a b p q = only-one p q
+
+pub answer-unique : (s out : List ℕ) (a b : After) → AnswerPromise s out (a .told) (a .out) → AnswerPromise s out (b .told) (b .out) → a ≡ b
+answer-unique s out a b p q = only-one p q

@@ -1,0 +1,47 @@
+-- `put_report` meets its contract: three numbers from place 1 on, and the answer's number before them.
+use mathlib.Core.Path.{_≡_, refl, ap, _∙_}
+use mathlib.Core.List.{List, [], _∷_, _++_}
+use Prim.Native.Nat.{ℕ, _≤_, _<_}
+use native.Mathlib.Omega.{arith}
+use borrow.Author.Needs.{needs}
+use lib.Dec.{lit<}
+use lib.ListN.{length, set, take, drop}
+use Rattle.ground.proofs.Fills.{back-in, first-set}
+use Rattle.loads.specs.Answers.{numberOf, elementOf, addressOf, reportOf}
+use Rattle.loads.specs.declared.StepResult.{StepResult}
+use Rattle.loads.specs.declared.Answer.{Answer}
+use Rattle.loads.specs.declared.Answer.the-variants.{Ran, SetUp, Outside, Undefined, SwitchedOff, Stack, NoMemory, Denied}
+use Rattle.cases.specs.Outcomes.{eights, reportBytes}
+use Rattle.cases.proofs.parts.put_report.Statement.{statement}
+use Rattle.cases.proofs.parts.put_report.Tie as tie
+
+in-byte : (a : Answer) → numberOf a < 256
+in-byte Ran = lit< tt
+in-byte SetUp = lit< tt
+in-byte Outside = lit< tt
+in-byte Undefined = lit< tt
+in-byte SwitchedOff = lit< tt
+in-byte Stack = lit< tt
+in-byte (NoMemory a e) = lit< tt
+in-byte (Denied a e) = lit< tt
+
+-- the report, over the first bytes
+reported : (dst : List ℕ) (r : StepResult) {ys : List ℕ} {n e a : ℕ}
+    → ys ≡ eights (r .count ∷ e ∷ a ∷ []) → e ≡ elementOf (r .answer) → a ≡ addressOf (r .answer) → n ≡ numberOf (r .answer) → 1 ≤ length dst
+    → set (take 1 dst ++ (ys ++ drop 24 (drop 1 dst))) 0 n ≡ reportBytes (reportOf r) ++ drop 25 dst
+unfolding reportBytes
+reported dst r {ys} {n} h e a k some =
+    ap (λ (l : List ℕ). set l 0 n) (back-in dst ys ys 1 24 refl)
+    ∙ first-set dst 24 ys n some
+    ∙ rw (h, e, a, k)
+
+pub put-report-spec : {M : Type 1} → statement M
+put-report-spec =
+    tie.close (tie.spec (λ c κs. tt) (λ c κs. tt) (λ c. search needs) (λ c. search needs) (λ c. search needs) (λ c. search needs)
+    (λ c κs. search needs) (λ c κs. tt)
+    (λ c. record { fits = rw (c .number .ensures) (in-byte (c .before .before .before .before .before .before .before .before .before .args .result .answer)) })
+    (λ c. search needs) (λ c. search needs)
+    (λ c.
+    let g = c .before .before .before .before .before .before .before .before .before in
+    reported (g .args .dst .now) (g .args .result) (c .before .before .before .put-numbers .ensures)
+    (c .before .before .before .before .before .before .before .element .ensures) (c .before .before .before .before .before .before .address .ensures) (c .number .ensures) (omega (arith, g .pre))))

@@ -1,0 +1,51 @@
+-- docs/CASES.md, "A case": what lies behind the head, part by part, and the bench that it lends.
+use Prim.Native.Nat.{ℕ, _+_, _*_}
+use mathlib.Core.List.{List}
+use lib.ListN.{take, drop}
+use Rattle.ground.specs.Lists.{listed, bytesAt}
+use Rattle.loads.specs.Benches.{Lent, Bench}
+use Rattle.bench.specs.Lends.{lentOf, benchOf}
+use Rattle.cases.specs.declared.Case.{Case}
+
+-- n bytes from a place on
+abbrev pub part : List ℕ → ℕ → ℕ → List ℕ
+part s at n = take n (drop at s)
+
+-- z, p, x, flash, flash_rights, ram, ram_rights: each begins where the one before it ends
+module _ (c : Case) where
+  abbrev pub zAt : ℕ
+  zAt = 96
+
+  abbrev pub pAt : ℕ
+  pAt = zAt + c .z
+
+  abbrev pub xAt : ℕ
+  xAt = pAt + c .p
+
+  abbrev pub flashAt : ℕ
+  flashAt = xAt + 8 * c .x
+
+  abbrev pub flashRightsAt : ℕ
+  flashRightsAt = flashAt + c .flash
+
+  abbrev pub ramAt : ℕ
+  ramAt = flashRightsAt + c .«flash_rights»
+
+  abbrev pub ramRightsAt : ℕ
+  ramRightsAt = ramAt + c .ram
+
+  -- the whole case
+  abbrev pub caseBytes : ℕ
+  caseBytes = ramRightsAt + c .«ram_rights»
+
+-- the bench that a case lends; "x is x_count numbers of 8 bytes"
+module _ (s : List ℕ) (c : Case) where
+  unfoldable pub lentIn : Lent
+  lentIn =
+      lentOf (c .settings) (part s (pAt c) (c .p)) (c .map) (part s (flashAt c) (c .flash)) (part s (flashRightsAt c) (c .«flash_rights»)) (part s (ramRightsAt c) (c .«ram_rights»))
+
+  abbrev pub scalarsIn : List ℕ
+  scalarsIn = listed (λ i. bytesAt s (xAt c + 8 * i) 8) 0 (c .x)
+
+  unfoldable pub benchIn : Bench
+  benchIn = benchOf (part s (zAt c) (c .z)) scalarsIn (part s (ramAt c) (c .ram))

@@ -1,0 +1,112 @@
+// What lies behind a head: its parts lent to a step, and the outcome written.
+use crate::Case;
+use ground::number;
+use loads::StepResult;
+ghost use mathlib.Core.Path.{_≡_};
+ghost use Prim.Native.Nat.{_+_, _*_, _≤_};
+ghost use mathlib.Core.List.{_++_};
+ghost use lib.ListN.{length, drop};
+ghost use Rattle.ground.specs.Lists.{listed, bytesAt};
+ghost use Rattle.loads.specs.Answers.{reportOf};
+ghost use Rattle.loads.specs.Steps.{StepPromise};
+ghost use Rattle.bench.specs.Lends.{benchOf};
+ghost use Rattle.cases.specs.Parts.{part, ramAt, caseBytes, lentIn, benchIn};
+ghost use Rattle.cases.specs.Outcomes.{eights, reportBytes, outcomeLength};
+ghost use Rattle.cases.specs.Answers.{outcomeIn};
+
+// Reads numbers of 8 bytes from a place on.
+fn numbers(x: &mut [u64], s: &[u8], at: usize)
+    requires { ⌜ at + 8 * length (now x) ≤ length (now s) ⌝ }
+    ensures { λ _. ⌜ now (x .exit) ≡ listed (λ i. bytesAt (now (s .entry)) (at + 8 * i) 8) 0 (length (now (x .entry))) ⌝ }
+{
+    let n = x.len();
+    let mut i = 0;
+    while i < n {
+        x[i] = number(s, at + 8 * i, 8);
+        i += 1;
+    }
+}
+
+// Writes numbers of 8 bytes one after the other.
+fn put_numbers(dst: &mut [u8], x: &[u64])
+    requires { ⌜ length (now dst) ≡ length (now x) * 8 ⌝ }
+    ensures { λ _. ⌜ now (dst .exit) ≡ eights (now (x .entry)) ⌝ }
+{
+    let n = x.len();
+    let mut i = 0;
+    while i < n {
+        let at = i * 8;
+        let end = at + 8;
+        ground::put(&mut dst[at..end], x[i]);
+        i += 1;
+    }
+}
+
+// One step of the bench that a case lends. The vector file and the scalars are read into what is lent for them, and left there.
+fn stepped(z: &mut [u8], x: &mut [u64], s: &[u8], case: Case) -> StepResult
+    requires { ⌜ (length (now z) ≡ case .z) × (length (now x) ≡ case .x) × (caseBytes case ≤ length (now s)) ⌝ }
+    ensures { λ r. ⌜ (let l = lentIn (now (s .entry)) case in StepPromise l (case .word) (benchIn (now (s .entry)) case) r l (benchOf (now (z .exit)) (now (x .exit)) (part (now (s .entry)) (ramAt case) (case .ram)))) ⌝ }
+{
+    let p_at = 96 + case.z;
+    let x_at = p_at + case.p;
+    let flash_at = x_at + 8 * case.x;
+    let flash_rights_at = flash_at + case.flash;
+    let ram_at = flash_rights_at + case.flash_rights;
+    let ram_rights_at = ram_at + case.ram;
+    let end = ram_rights_at + case.ram_rights;
+    bytes::copy(&s[96..p_at], z);
+    numbers(x, s, x_at);
+    bench::step(
+        z,
+        x,
+        &s[ram_at..ram_rights_at],
+        case.word,
+        case.settings,
+        &s[p_at..x_at],
+        case.map,
+        &s[flash_at..flash_rights_at],
+        &s[flash_rights_at..ram_at],
+        &s[ram_rights_at..end],
+    )
+}
+
+// Writes what a step tells: the answer's number, then count, element and address.
+fn put_report(dst: &mut [u8], result: StepResult)
+    requires { ⌜ 25 ≤ length (now dst) ⌝ }
+    ensures { λ _. ⌜ now (dst .exit) ≡ reportBytes (reportOf result) ++ drop 25 (now (dst .entry)) ⌝ }
+{
+    let answer = result.answer;
+    let numbers = [result.count, answer.element(), answer.address().0];
+    put_numbers(&mut dst[1..25], &numbers);
+    dst[0] = answer.number() as u8;
+}
+
+// Answers a case: its outcome over the first bytes of what is lent for it. z is stepped where it lies in the outcome, so that
+// no file is moved twice; x is where the scalars are stepped.
+fn outcome(out: &mut [u8], x: &mut [u64], s: &[u8], case: Case)
+    requires { ⌜ (length (now x) ≡ case .x) × (outcomeLength case ≤ length (now out)) × (caseBytes case ≤ length (now s)) ⌝ }
+    ensures { λ _. ⌜ now (out .exit) ≡ outcomeIn (now (s .entry)) case (now (out .entry)) ⌝ }
+{
+    let end = 25 + case.z;
+    let last = end + 8 * x.len();
+    let result = stepped(&mut out[25..end], x, s, case);
+    put_numbers(&mut out[end..last], x);
+    put_report(out, result);
+}
+
+// Room for the scalars of any case.
+fn scalars() -> [u64; 128]
+    ensures { λ r. ⌜ 128 ≡ length r ⌝ }
+{
+    [0; 128]
+}
+
+// The same, with room for the scalars.
+pub(crate) fn written(out: &mut [u8], s: &[u8], case: Case)
+    requires { ⌜ (case .x ≤ 128) × (outcomeLength case ≤ length (now out)) × (caseBytes case ≤ length (now s)) ⌝ }
+    ensures { λ _. ⌜ now (out .exit) ≡ outcomeIn (now (s .entry)) case (now (out .entry)) ⌝ }
+{
+    let mut x = scalars();
+    let n = case.x;
+    outcome(out, &mut x[..n], s, case);
+}

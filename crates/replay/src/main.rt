@@ -1,0 +1,87 @@
+// Cases in, outcomes out, in the format of docs/CASES.md: all that matters is `cases::answer`; here it is only read and written.
+mod telling;
+
+use cases::Answered;
+use cases::Opened;
+use libc::STDIN_FILENO;
+use libc::STDOUT_FILENO;
+
+// Reads into a part of the buffer until it is full or the input ends, and answers how many bytes came.
+fn read_part(stream: &mut [u8], from: usize, to: usize) -> usize {
+    if to <= stream.len() {
+        if from <= to {
+            return io::read_full(STDIN_FILENO, &mut stream[from..to]);
+        }
+    }
+    0
+}
+
+// The end of the input, or input that cannot be read.
+fn ended(number: u64) {
+    let mut more = [0u8; 1];
+    if libc::read(STDIN_FILENO, &mut more) < 0 {
+        telling::say(number, b"standard input cannot be read");
+    }
+}
+
+// Writes an outcome, and answers whether it is written.
+fn write_outcome(number: u64, out: &[u8], given: usize) -> bool {
+    if given <= out.len() {
+        if io::write_all(STDOUT_FILENO, &out[0..given]) {
+            return true;
+        }
+    }
+    telling::say(number, b"standard output cannot be written");
+    false
+}
+
+// Answers a case of n bytes in all or fewer, and answers whether there is more to do.
+fn answered(number: u64, stream: &[u8], n: usize, out: &mut [u8]) -> bool {
+    if n <= stream.len() {
+        match cases::answer(&stream[0..n], out) {
+            Answered::Written(_, given) => return write_outcome(number, out, given),
+            Answered::Not(why) => telling::refused(number, why),
+        }
+    }
+    false
+}
+
+// Reads a case and answers it: first its head, which says how long it is, and then the rest.
+fn one_case(number: u64, stream: &mut [u8], out: &mut [u8]) -> bool {
+    let got = read_part(stream, 0, 96);
+    if got == 0 {
+        ended(number);
+        return false;
+    }
+    if stream.len() < got {
+        return false;
+    }
+    match cases::head(&stream[0..got]) {
+        Opened::Broken(why) => {
+            telling::refused(number, why);
+            false
+        }
+        Opened::Holds(_, whole) => {
+            let rest = read_part(stream, 96, whole);
+            answered(number, stream, std::num::wrapping_add_usize(96, rest), out)
+        }
+    }
+}
+
+// A proved loop has to end, and nothing says that the input does. So it counts up to a number that no run comes to.
+fn all_cases(stream: &mut [u8], out: &mut [u8]) {
+    let mut number = 0;
+    while number < u64::MAX {
+        if !one_case(number, stream, out) {
+            return;
+        }
+        number += 1;
+    }
+}
+
+fn main() {
+    // the longest case, and the longest outcome
+    let mut stream = [0u8; 333024];
+    let mut out = [0u8; 66585];
+    all_cases(&mut stream, &mut out);
+}
