@@ -1,5 +1,5 @@
-// Reads words with what binutils 2.40 prints for each, decodes each word, and counts where the two agree: where the text of a load, made
-// from its decoded fields, is binutils' text; where a word is no load of ours, if binutils' text is none of them either.
+// Reads words with what binutils 2.40 prints for each, decodes each word, and counts where the two agree: where the word is a load, its
+// text, made from the decoded fields, is binutils' text; where it is none of ours, binutils' text is none of them either.
 mod lines;
 mod printed;
 mod texts;
@@ -13,36 +13,18 @@ use words::Decoded;
 use words::Insn;
 use words::Offset;
 
-// For each row of the table, how many words are such, and how many of these agree.
-struct Tally {
-    words: [u64; 11],
-    agree: [u64; 11],
-}
-
-// How many words, and how many of them agree.
-struct Count {
-    words: u64,
-    agree: u64,
-}
-
-// How far the input is read: where the next line begins and its number; whether there may be one; whether all was in the form.
+// How far the input is read: where the next line begins, and its number; whether to read on, and whether every line was in the form.
+// Then for each row of the table how many words are such, and how many of these agree; the last row is of all words.
 struct Run {
     at: u64,
     line: u64,
     open: bool,
-    whole: bool,
-    tally: Tally,
+    sound: bool,
+    words: [u64; 12],
+    agree: [u64; 12],
 }
 
-// The row of the table that a word is counted in: the nine families, outside, undefined.
-fn row_of(decoded: Decoded) -> usize {
-    match decoded {
-        Decoded::Outside => 9,
-        Decoded::Undefined => 10,
-        Decoded::Is(insn) => family(insn),
-    }
-}
-
+// The row of a load: its family.
 fn family(insn: Insn) -> usize {
     match insn {
         Insn::Replicate {
@@ -86,8 +68,17 @@ fn family(insn: Insn) -> usize {
     }
 }
 
-// What a word is, in a text.
-fn ours(decoded: Decoded) -> Text {
+// The row of a word.
+fn row(decoded: Decoded) -> usize {
+    match decoded {
+        Decoded::Outside => 9,
+        Decoded::Undefined => 10,
+        Decoded::Is(insn) => family(insn),
+    }
+}
+
+// What a word is, as a text.
+fn told(decoded: Decoded) -> Text {
     match decoded {
         Decoded::Outside => Text::of(b"outside"),
         Decoded::Undefined => Text::of(b"undefined"),
@@ -104,79 +95,77 @@ fn agrees(decoded: Decoded, text: &[u8]) -> bool {
     }
 }
 
-// Writes the line of a disagreement.
-fn disagreement(line: u64, word: u32, text: &[u8], mine: Text) {
+// Writes a disagreement: the line, which has the word and binutils' text, and what the word is to us.
+fn disagreement(number: u64, line: &[u8], ours: Text) {
     io::write_all(1, b"line ");
-    io::print_decimal(1, line);
+    io::print_decimal(1, number);
     io::write_all(1, b": ");
-    io::print_hex(1, word as u64, 8);
-    io::write_all(1, b" is to binutils ");
-    io::write_all(1, text);
-    io::write_all(1, b" and to us ");
-    mine.write();
+    io::write_all(1, line);
+    io::write_all(1, b" | ours: ");
+    ours.write();
     io::write_all(1, b"\n");
 }
 
-// Counts a word in its row.
-fn counted(tally: Tally, row: usize, agree: bool) -> Tally {
-    let mut t = tally;
-    if row < 11 {
-        t.words[row] = std::num::wrapping_add_u64(t.words[row], 1);
-        if agree {
-            t.agree[row] = std::num::wrapping_add_u64(t.agree[row], 1);
+// One more in a row, and in the row of all words, where there is one to count.
+fn counted(counts: [u64; 12], row: usize, one: bool) -> [u64; 12] {
+    let mut c = counts;
+    if one {
+        if row < 11 {
+            c[row] = std::num::wrapping_add_u64(c[row], 1);
         }
+        c[11] = std::num::wrapping_add_u64(c[11], 1);
     }
-    t
+    c
 }
 
-// Ends the run, with why in a line on standard error.
+// Compares the word of a line with its text, and goes on behind the line.
+fn compared(run: Run, word: u32, line: &[u8]) -> Run {
+    let decoded = words::read(word);
+    let same = agrees(decoded, part(line, lines::TEXT, line.len()));
+    if !same {
+        disagreement(run.line, line, told(decoded));
+    }
+    let words = run.words;
+    let agree = run.agree;
+    let end = std::num::wrapping_add_u64(run.at, line.len() as u64);
+    Run {
+        at: std::num::wrapping_add_u64(end, 1),
+        line: std::num::wrapping_add_u64(run.line, 1),
+        open: true,
+        sound: true,
+        words: counted(words, row(decoded), true),
+        agree: counted(agree, row(decoded), same),
+    }
+}
+
+// Ends the run, with why in one line on standard error.
 fn refused(run: Run, why: &[u8]) -> Run {
     io::write_all(2, b"binutils: line ");
     io::print_decimal(2, run.line);
     io::write_all(2, why);
     let mut end = run;
     end.open = false;
-    end.whole = false;
+    end.sound = false;
     end
 }
 
-// Compares a word with its text, and goes on behind their line of so many bytes.
-fn compared(run: Run, word: u32, text: &[u8], bytes: usize) -> Run {
-    let decoded = words::read(word);
-    let agree = agrees(decoded, text);
-    if !agree {
-        disagreement(run.line, word, text, ours(decoded));
-    }
-    Run {
-        at: std::num::wrapping_add_u64(run.at, bytes as u64),
-        line: std::num::wrapping_add_u64(run.line, 1),
-        open: true,
-        whole: true,
-        tally: counted(run.tally, row_of(decoded), agree),
-    }
-}
-
-// Takes the first line of what is there.
+// Takes the first line of these bytes.
 fn taken(run: Run, bytes: &[u8]) -> Run {
     let end = find(bytes, b"\n");
     if end == bytes.len() {
         return refused(run, b" has no end within 128 bytes\n");
     }
-    match lines::read(part(bytes, 0, end)) {
+    let line = part(bytes, 0, end);
+    match lines::read(line) {
         Line::Odd => refused(
             run,
             b" is not eight hexadecimal digits, a space and a text\n",
         ),
-        Line::Word(word) => compared(
-            run,
-            word,
-            part(bytes, lines::TEXT, end),
-            std::num::wrapping_add_usize(end, 1),
-        ),
+        Line::Word(word) => compared(run, word, line),
     }
 }
 
-// Reads on from where the next line begins. It is read at its place in the file, so that no byte has to be kept for the next turn.
+// Reads on at the place where the next line begins, so that no byte has to be kept for the next turn.
 fn turn(run: Run) -> Run {
     let mut buf = [0u8; 128];
     let at = (run.at % 0x8000_0000_0000_0000) as i64;
@@ -199,11 +188,9 @@ fn all() -> Run {
         at: 0,
         line: 1,
         open: true,
-        whole: true,
-        tally: Tally {
-            words: [0; 11],
-            agree: [0; 11],
-        },
+        sound: true,
+        words: [0; 12],
+        agree: [0; 12],
     };
     let mut turns = u64::MAX;
     while turns > 0 && run.open {
@@ -213,46 +200,49 @@ fn all() -> Run {
     run
 }
 
-// Writes a row of the table, and adds it to the sum of those before.
-fn row(sum: Count, name: &[u8], words: u64, agree: u64) -> Count {
-    io::write_all(1, name);
+// Writes the two counts of a row.
+fn counts(agree: u64, words: u64) {
     io::print_decimal(1, agree);
     io::write_all(1, b" of ");
     io::print_decimal(1, words);
-    io::write_all(1, b"\n");
-    Count {
-        words: std::num::wrapping_add_u64(sum.words, words),
-        agree: std::num::wrapping_add_u64(sum.agree, agree),
-    }
 }
 
-// Writes the table and its sum.
-fn table(tally: Tally) {
-    let w = tally.words;
-    let a = tally.agree;
-    io::write_all(1, b"family           agree\n");
-    let mut s = Count { words: 0, agree: 0 };
-    s = row(s, b"LD1R no offset   ", w[0], a[0]);
-    s = row(s, b"LD1R post-index  ", w[1], a[1]);
-    s = row(s, b"LD1R by element  ", w[2], a[2]);
-    s = row(s, b"LD1 immediate    ", w[3], a[3]);
-    s = row(s, b"LD1 scalar       ", w[4], a[4]);
-    s = row(s, b"LD1RQ immediate  ", w[5], a[5]);
-    s = row(s, b"LD1RQ scalar     ", w[6], a[6]);
-    s = row(s, b"LD1RO immediate  ", w[7], a[7]);
-    s = row(s, b"LD1RO scalar     ", w[8], a[8]);
-    s = row(s, b"outside          ", w[9], a[9]);
-    s = row(s, b"undefined        ", w[10], a[10]);
-    io::write_all(1, b"\n");
-    io::print_decimal(1, s.agree);
-    io::write_all(1, b" of ");
-    io::print_decimal(1, s.words);
-    io::write_all(1, b" words agree with binutils 2.40\n");
+// Writes a form, with the next row's counts for each %.
+fn report(form: &[u8], agree: [u64; 12], words: [u64; 12]) {
+    let mut i = 0;
+    let mut row = 0;
+    while i < form.len() {
+        let c = form[i];
+        if c != b'%' {
+            io::write_all(1, &[c]);
+        } else if row < 12 {
+            counts(agree[row], words[row]);
+            row += 1;
+        }
+        i += 1;
+    }
 }
 
 fn main() {
     let run = all();
-    if run.whole {
-        table(run.tally);
+    if !run.sound {
+        return;
     }
+    let form = b"family           agree\n\
+        LD1R no offset   %\n\
+        LD1R post-index  %\n\
+        LD1R by element  %\n\
+        LD1 immediate    %\n\
+        LD1 scalar       %\n\
+        LD1RQ immediate  %\n\
+        LD1RQ scalar     %\n\
+        LD1RO immediate  %\n\
+        LD1RO scalar     %\n\
+        outside          %\n\
+        undefined        %\n\
+        \n\
+        % words agree with binutils 2.40\n";
+    let agree = run.agree;
+    let words = run.words;
+    report(form, agree, words);
 }

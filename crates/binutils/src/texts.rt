@@ -65,9 +65,9 @@ impl Text {
     }
 
     // The text with a number behind it.
-    pub(crate) fn number(self, v: u64) -> Text {
+    pub(crate) fn number(self, v: u32) -> Text {
         let mut digits = [0u8; 20];
-        let k = io::decimal(v, &mut digits);
+        let k = io::decimal(v as u64, &mut digits);
         self.and(&digits[..k])
     }
 
@@ -75,12 +75,6 @@ impl Text {
     pub(crate) fn same(self, s: &[u8]) -> bool {
         let bytes = self.bytes;
         check::same(part(&bytes, 0, self.n), s)
-    }
-
-    // Whether the text stands anywhere in a slice.
-    pub(crate) fn is_in(self, s: &[u8]) -> bool {
-        let bytes = self.bytes;
-        has(s, part(&bytes, 0, self.n))
     }
 
     // Writes the text to standard output.
