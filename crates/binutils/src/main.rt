@@ -86,12 +86,14 @@ fn told(decoded: Decoded) -> Text {
     }
 }
 
-// Whether what a word is agrees with binutils' text.
+// Whether what a word is agrees with binutils' text. That the text of each load is a listed one says nothing of the word; it holds the
+// test that the other words rest on.
 fn agrees(decoded: Decoded, text: &[u8]) -> bool {
+    let listed = printed::listed(text);
     match decoded {
-        Decoded::Outside => !printed::listed(text),
-        Decoded::Undefined => !printed::listed(text),
-        Decoded::Is(insn) => printed::load(insn).same(text),
+        Decoded::Outside => !listed,
+        Decoded::Undefined => !listed,
+        Decoded::Is(insn) => listed & printed::load(insn).same(text),
     }
 }
 
