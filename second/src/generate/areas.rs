@@ -1,0 +1,101 @@
+//! Two areas that are accepted: touching, around 2^64, with holes, empty, far away.
+
+use crate::machine::{Area, PAGE};
+use crate::rng::Rng;
+
+/// 2^64 bytes in pages.
+const PAGES: u64 = 1 << 52;
+
+/// Flash and RAM, in either order of addresses.
+pub fn two(rng: &mut Rng) -> (Area, Area) {
+    let mut first = contents(rng);
+    let mut second = contents(rng);
+    let (first_pages, second_pages) = (first.pages_begun(), second.pages_begun());
+    let page = place(rng, first_pages);
+    first.start = page.wrapping_mul(PAGE);
+    let gap = rng.pick([0, 0, 0, 0, 0, 0, 1, 2, 1000, 1 << 40]);
+    let behind = (page + first_pages + gap) % PAGES;
+    // Where there is no room behind the first area it lies near the top, and page 0 is free
+    let behind = if behind + second_pages > PAGES {
+        0
+    } else {
+        behind
+    };
+    second.start = behind.wrapping_mul(PAGE);
+    if second.is_empty() && rng.percent(50) {
+        second.start = inside(rng, &first);
+    } else if first.is_empty() && rng.percent(50) {
+        first.start = inside(rng, &second);
+    }
+    if rng.percent(50) {
+        (first, second)
+    } else {
+        (second, first)
+    }
+}
+
+/// A page of the area or the one behind it.
+fn inside(rng: &mut Rng, area: &Area) -> u64 {
+    let page = rng.below(area.pages_begun() + 1);
+    area.start.wrapping_add(page * PAGE)
+}
+
+/// The page number of an area of this many pages: 0, the very top, near it, or anywhere.
+fn place(rng: &mut Rng, pages: u64) -> u64 {
+    let top = PAGES - pages;
+    let place = match rng.below(10) {
+        0 | 1 => 0,
+        2..=4 => top,
+        5 => top - rng.below(4),
+        6 => (PAGES / 2 - 1) - rng.below(3),
+        7 => rng.below(16),
+        8 => rng.below(1 << 20),
+        _ => rng.below(PAGES),
+    };
+    place.min(top)
+}
+
+fn contents(rng: &mut Rng) -> Area {
+    let length = length(rng);
+    let bytes = rng.bytes(length as usize);
+    let rights = rights(rng, length.div_ceil(PAGE));
+    Area {
+        start: 0,
+        bytes,
+        rights,
+    }
+}
+
+/// Mostly up to three pages, whole pages often, the limit itself rarely.
+fn length(rng: &mut Rng) -> u64 {
+    if rng.per_mille(3) {
+        return 65_536 - rng.below(2);
+    }
+    match rng.below(20) {
+        0 | 1 => 0,
+        2..=5 => PAGE,
+        6..=10 => 2 * PAGE,
+        11 => 3 * PAGE,
+        12 => 1 + rng.below(64),
+        13..=15 => rng.pick([1, 2]) * PAGE - 8 + rng.below(17),
+        16 => rng.below(3 * PAGE),
+        _ => rng.below(2 * PAGE),
+    }
+}
+
+/// Rights with junk above bit 0: all readable, some denied, one denied, all denied.
+fn rights(rng: &mut Rng, pages: u64) -> Vec<u8> {
+    let manner = rng.below(20);
+    let one = rng.below(pages);
+    let right = |page| {
+        let junk = rng.next_u64() as u8 & 0xFE;
+        let readable = match manner {
+            0..=10 => true,
+            11..=15 => rng.percent(60),
+            16..=18 => page != one,
+            _ => false,
+        };
+        junk | u8::from(readable)
+    };
+    (0..pages).map(right).collect()
+}

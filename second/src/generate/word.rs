@@ -1,0 +1,70 @@
+//! Words: of a family, nearly of a family, and of no family.
+
+use crate::decode::Family;
+use crate::rng::Rng;
+
+/// The lowest bit of the fields Rm and Rn, and the bits L and S of LD1R.
+const RM: u32 = 16;
+const RN: u32 = 5;
+const L: u32 = 1 << 22;
+const S: u32 = 1 << 12;
+
+fn register(word: u32, low: u32) -> u32 {
+    (word >> low) & 31
+}
+
+fn set_register(word: &mut u32, low: u32, number: u32) {
+    *word = *word & !(31 << low) | number << low;
+}
+
+/// A word of one of the nine families, all fields random; Rn = 31, Rn = Rm and what makes a word
+/// undefined are more frequent or rarer than chance would have them.
+pub fn of_a_family(rng: &mut Rng) -> u32 {
+    let family = rng.pick(Family::ALL);
+    let pattern = family.pattern();
+    let mut word = rng.next_u64() as u32 & !pattern.mask | pattern.value;
+    if rng.percent(22) {
+        set_register(&mut word, RN, 31);
+    }
+    if family.is_ld1r() {
+        word = (word | L) & !S;
+        if rng.percent(4) {
+            word &= !L;
+        }
+        if rng.percent(4) {
+            word |= S;
+        }
+    }
+    if family.is_scalar() || family == Family::Ld1rPostIndex {
+        index_register(rng, family, &mut word);
+    }
+    word
+}
+
+/// Rm = 31 (undefined, or the post-index by the size), Rm = Rn, or any other.
+fn index_register(rng: &mut Rng, family: Family, word: &mut u32) {
+    let rm_31 = if family.is_scalar() { 5 } else { 30 };
+    let own = register(*word, RN);
+    let number = match rng.below(100) {
+        part if part < rm_31 => 31,
+        part if part < rm_31 + 12 && own != 31 => own,
+        _ => rng.below(31) as u32,
+    };
+    set_register(word, RM, number);
+}
+
+/// One fixed bit flipped, any bit flipped, some of the fixed bits random, or wholly random.
+pub fn near_miss(rng: &mut Rng, word: u32) -> u32 {
+    let fixed = Family::of(word).map_or(u32::MAX, |family| family.pattern().mask);
+    match rng.below(10) {
+        0..=4 => {
+            let which = rng.below(u64::from(fixed.count_ones())) as usize;
+            let bit = (0..32).filter(|bit| fixed >> bit & 1 == 1).nth(which);
+            word ^ 1 << bit.unwrap_or(0)
+        }
+        5 => word ^ 1 << rng.below(32),
+        // The highest bits tell SVE loads from all else; below them lie the other loads
+        6 | 7 => word ^ (rng.next_u64() as u32 & rng.next_u64() as u32 & fixed & 0x03FF_FFFF),
+        _ => rng.next_u64() as u32,
+    }
+}

@@ -1,0 +1,21 @@
+//! A second interpreter of Arm vector loads, written from the documents alone, so that it can be
+//! compared with a proved bench. No `unsafe`, no dependency, and no input makes it panic.
+
+#![forbid(unsafe_code)]
+
+pub mod answer;
+pub mod assembly;
+pub mod cases;
+pub mod compare;
+pub mod decode;
+pub mod describe;
+pub mod generate;
+pub mod loads;
+pub mod machine;
+pub mod recorded;
+pub mod rng;
+pub mod rules;
+pub mod sample;
+pub mod sharp;
+pub mod words;
+pub mod wrong;

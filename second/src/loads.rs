@@ -1,0 +1,303 @@
+//! The step, and one function for each page, in the page's own order and words. A fault leaves
+//! the function early; the bench is changed only by `step`, and only when the load ran.
+
+use crate::decode::{decode, Family, Load};
+use crate::machine::{accepted, Answer, Bench, Machine, Stop, Vector, PC, SP};
+use crate::rules::Rules;
+
+/// A step's answer with its count of element reads, and the element and address of 6 and 7.
+#[derive(Clone, Copy, Debug, PartialEq, Eq)]
+pub struct Report {
+    pub answer: u8,
+    pub count: u64,
+    pub element: u64,
+    pub address: u64,
+}
+
+/// What a load that ran changes besides PC: register t, and perhaps one base.
+struct Effect {
+    t: usize,
+    z: Vector,
+    wback: Option<(usize, u64)>,
+}
+
+impl Effect {
+    /// `Z[t, VL] = result`
+    fn z(t: usize, result: Vector) -> Result<Effect, Stop> {
+        Ok(Effect {
+            t,
+            z: result,
+            wback: None,
+        })
+    }
+}
+
+/// One step. Order of answers: 1, 2, 3 from the word and F64MM, 4, 3 for short VL, 5, then 6 or 7.
+pub fn step<R: Rules + ?Sized>(rules: &R, word: u32, bench: &mut Bench) -> Report {
+    let mut machine = Machine::new(rules, bench);
+    let outcome = execute(&mut machine, word, bench);
+    let count = machine.reads;
+    match outcome {
+        Ok(effect) => {
+            commit(bench, &effect);
+            Report {
+                answer: Answer::Ran.number(),
+                count,
+                element: 0,
+                address: 0,
+            }
+        }
+        Err(stop) => Report {
+            answer: stop.answer.number(),
+            count,
+            element: stop.lane,
+            address: stop.address,
+        },
+    }
+}
+
+fn execute<R: Rules + ?Sized>(
+    machine: &mut Machine<R>,
+    word: u32,
+    bench: &Bench,
+) -> Result<Effect, Stop> {
+    if !accepted(machine.rules, bench) {
+        return Err(Answer::SetUp.into());
+    }
+    let load = decode(machine.rules, word, bench.f64mm)?;
+    match load.family {
+        Family::Ld1rNoOffset => ld1r(machine, &load, false),
+        Family::Ld1rPostIndex => ld1r(machine, &load, true),
+        Family::Ld1rElement => ld1r_element(machine, &load),
+        Family::Ld1Immediate => ld1_immediate(machine, &load),
+        Family::Ld1Scalar => ld1_scalar(machine, &load),
+        Family::Ld1rqImmediate => ld1rq_immediate(machine, &load),
+        Family::Ld1rqScalar => ld1rq_scalar(machine, &load),
+        Family::Ld1roImmediate => ld1ro_immediate(machine, &load),
+        Family::Ld1roScalar => ld1ro_scalar(machine, &load),
+    }
+}
+
+/// "Outside the destination, that base and the program counter, nothing changes."
+fn commit(bench: &mut Bench, effect: &Effect) {
+    let size = effect.z.0.len();
+    if let Some(register) = bench.z.get_mut(effect.t * size..(effect.t + 1) * size) {
+        register.copy_from_slice(&effect.z.0);
+    }
+    if let Some((n, base)) = effect.wback {
+        bench.x[n] = base;
+    }
+    bench.x[PC] = bench.x[PC].wrapping_add(4);
+}
+
+/// Page 004, LD1R. Its loop over `selem` runs once: the R bit of all rows is 0.
+fn ld1r<R: Rules + ?Sized>(
+    machine: &mut Machine<R>,
+    load: &Load,
+    wback: bool,
+) -> Result<Effect, Stop> {
+    let Load { t, n, m, esize, .. } = *load;
+    machine.check_fp_advsimd_enabled64()?;
+    let ebytes = esize / 8;
+    if n == SP && machine.rules.ld1r_checks_sp(wback) {
+        machine.check_sp_alignment()?;
+    }
+    let address = machine.x(n);
+    let element = machine.mem(0, address, ebytes)?;
+    // V[t, datasize] = Replicate(element, datasize DIV esize), the rest of Z becomes zero
+    let mut result = Vector::zeros(machine.current_vl());
+    for e in 0..load.datasize / esize {
+        result.set_elem(e, esize, element);
+    }
+    let offs = if m != 31 { machine.x(m) } else { ebytes };
+    Ok(Effect {
+        t,
+        z: result,
+        wback: wback.then_some((n, address.wrapping_add(offs))),
+    })
+}
+
+/// Page 000, LD1RB to LD1RD: load and broadcast to vector.
+fn ld1r_element<R: Rules + ?Sized>(machine: &mut Machine<R>, load: &Load) -> Result<Effect, Stop> {
+    let Load { t, n, g, msize, .. } = *load;
+    machine.check_sve_enabled()?;
+    let vl = machine.current_vl();
+    let esize = machine.rules.element_lane_size(msize, load.esize);
+    let elements = vl / esize;
+    let mask = machine.p(g);
+    let mut result = Vector::zeros(vl);
+    let mut data = 0;
+    let mbytes = msize / 8;
+    let any_active = machine.any_active(mask, elements, esize);
+    machine.check_sp_if(n, any_active)?;
+    if any_active {
+        let base = machine.x(n);
+        let scale = machine.rules.element_scale(mbytes, load.esize / 8);
+        let offset = i128::from(load.offset) * i128::from(scale);
+        let addr = machine.rules.address(base, offset);
+        // "a single read is one active element with number 0"
+        data = machine.mem(0, addr, mbytes)?;
+    }
+    for e in 0..elements {
+        if machine.active(mask, e, esize) {
+            let value = machine.rules.extend(data, msize, load.unsigned);
+            result.set_elem(e, esize, value);
+        } else {
+            result.set_elem(e, esize, 0);
+        }
+    }
+    Effect::z(t, result)
+}
+
+/// Page 003, LD1 (scalar plus immediate, single register).
+fn ld1_immediate<R: Rules + ?Sized>(machine: &mut Machine<R>, load: &Load) -> Result<Effect, Stop> {
+    let Load {
+        t,
+        n,
+        g,
+        esize,
+        msize,
+        ..
+    } = *load;
+    machine.check_sve_enabled()?;
+    let vl = machine.current_vl();
+    let elements = vl / esize;
+    let mask = machine.p(g);
+    let mut result = Vector::zeros(vl);
+    let mbytes = msize / 8;
+    machine.check_sp_if(n, machine.any_active(mask, elements, esize))?;
+    let base = machine.x(n);
+    let scale = (machine.rules).immediate_scale(mask, elements, mbytes, esize / 8);
+    for e in 0..elements {
+        if machine.active(mask, e, esize) {
+            // eoff = (offset * elements) + e; addr = base + eoff * mbytes
+            let eoff = i128::from(load.offset) * i128::from(scale) + i128::from(e * mbytes);
+            let addr = machine.rules.address(base, eoff);
+            let data = machine.mem(e, addr, mbytes)?;
+            let value = machine.rules.extend(data, msize, load.unsigned);
+            result.set_elem(e, esize, value);
+        } else {
+            result.set_elem(e, esize, 0);
+        }
+    }
+    Effect::z(t, result)
+}
+
+/// LD1 (scalar plus scalar, single register), Arm's public page.
+fn ld1_scalar<R: Rules + ?Sized>(machine: &mut Machine<R>, load: &Load) -> Result<Effect, Stop> {
+    let Load {
+        t,
+        n,
+        m,
+        g,
+        esize,
+        msize,
+        ..
+    } = *load;
+    machine.check_sve_enabled()?;
+    let vl = machine.current_vl();
+    let elements = vl / esize;
+    let mask = machine.p(g);
+    let mut result = Vector::zeros(vl);
+    let mbytes = msize / 8;
+    machine.check_sp_if(n, machine.any_active(mask, elements, esize))?;
+    let base = machine.x(n);
+    let offset = i128::from(machine.x(m));
+    let scale = i128::from(machine.rules.scalar_scale(mbytes, esize / 8));
+    for e in 0..elements {
+        if machine.active(mask, e, esize) {
+            // addr = base + (UInt(offset) + e) * mbytes
+            let eoff = offset * scale + i128::from(e * mbytes);
+            let addr = machine.rules.address(base, eoff);
+            let data = machine.mem(e, addr, mbytes)?;
+            let value = machine.rules.extend(data, msize, load.unsigned);
+            result.set_elem(e, esize, value);
+        } else {
+            result.set_elem(e, esize, 0);
+        }
+    }
+    Effect::z(t, result)
+}
+
+/// LD1RQ (scalar plus immediate), Arm's public page: an immediate counts 16 bytes.
+fn ld1rq_immediate<R: Rules + ?Sized>(
+    machine: &mut Machine<R>,
+    load: &Load,
+) -> Result<Effect, Stop> {
+    machine.check_sve_enabled()?;
+    let scale = i128::from(machine.rules.block_scale(128 / 8));
+    let offset = i128::from(load.offset) * scale;
+    let result = block(machine, load, 128, offset)?;
+    // Z[t, VL] = Replicate(result, VL DIV 128)
+    Effect::z(load.t, result.replicate(machine.current_vl()))
+}
+
+/// Page 002, LD1RQ (scalar plus scalar).
+fn ld1rq_scalar<R: Rules + ?Sized>(machine: &mut Machine<R>, load: &Load) -> Result<Effect, Stop> {
+    machine.check_sve_enabled()?;
+    // addr = AddressAdd(base, UInt(offset) * mbytes)
+    let offset = i128::from(machine.x(load.m)) * i128::from(load.esize / 8);
+    let result = block(machine, load, 128, offset)?;
+    Effect::z(load.t, result.replicate(machine.current_vl()))
+}
+
+/// Page 001, LD1RO (scalar plus immediate): an immediate counts 32 bytes.
+fn ld1ro_immediate<R: Rules + ?Sized>(
+    machine: &mut Machine<R>,
+    load: &Load,
+) -> Result<Effect, Stop> {
+    machine.check_sve_enabled()?;
+    check_octaword_vl(machine)?;
+    let scale = i128::from(machine.rules.block_scale(256 / 8));
+    let offset = i128::from(load.offset) * scale;
+    let result = block(machine, load, 256, offset)?;
+    // Z[t, VL] = ZeroExtend(Replicate(result, VL DIV 256), VL)
+    Effect::z(load.t, result.replicate(machine.current_vl()))
+}
+
+/// LD1RO (scalar plus scalar), Arm's public page.
+fn ld1ro_scalar<R: Rules + ?Sized>(machine: &mut Machine<R>, load: &Load) -> Result<Effect, Stop> {
+    machine.check_sve_enabled()?;
+    check_octaword_vl(machine)?;
+    let offset = i128::from(machine.x(load.m)) * i128::from(load.esize / 8);
+    let result = block(machine, load, 256, offset)?;
+    Effect::z(load.t, result.replicate(machine.current_vl()))
+}
+
+/// Page 001: `if VL < 256 then UNDEFINED`, behind the check of the SVE switch.
+fn check_octaword_vl<R: Rules + ?Sized>(machine: &Machine<R>) -> Result<(), Stop> {
+    if machine.current_vl() < 256 {
+        return Err(Answer::Undefined.into());
+    }
+    Ok(())
+}
+
+/// What pages 001 and 002 have in common: from `elements = size DIV esize` to the end of the loop
+/// over the block's own lanes. `offset` is the block's distance from the base in bytes.
+fn block<R: Rules + ?Sized>(
+    machine: &mut Machine<R>,
+    load: &Load,
+    size: u64,
+    offset: i128,
+) -> Result<Vector, Stop> {
+    let Load { n, g, esize, .. } = *load;
+    let elements = size / esize;
+    let mask = machine.p(g);
+    let mut result = Vector::zeros(size);
+    let mbytes = esize / 8;
+    // "for LD1RQ and LD1RO this follows the prose of 001 and 002": higher elements are ignored
+    let all_lanes = machine.current_vl() / esize;
+    let consulted = machine.rules.block_lanes_consulted(elements, all_lanes);
+    machine.check_sp_if(n, machine.any_active(mask, consulted, esize))?;
+    let base = machine.x(n);
+    for e in 0..elements {
+        if machine.active(mask, e, esize) {
+            let addr = (machine.rules).address(base, offset + i128::from(e * mbytes));
+            let data = machine.mem(e, addr, mbytes)?;
+            result.set_elem(e, esize, data);
+        } else {
+            result.set_elem(e, esize, 0);
+        }
+    }
+    Ok(result)
+}

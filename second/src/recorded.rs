@@ -1,0 +1,56 @@
+//! Steps that other machines made and that were recorded: a case and its recorded outcome, one such
+//! pair after the other.
+
+use std::io::Read;
+
+use crate::cases::{BadInput, Case, Outcome};
+use crate::describe::{case_in_words, differences_in_words};
+
+/// A pair that cannot be read, by its number.
+pub type Bad = (u64, BadInput);
+
+/// How many steps agree with what was recorded, and those that do not in words.
+#[derive(Default)]
+pub struct Held {
+    pub steps: u64,
+    pub agree: u64,
+    pub differences: Vec<String>,
+}
+
+/// Holds our outcome of each case to the recorded one.
+pub fn hold(mut pairs: impl Read) -> Result<Held, Bad> {
+    let mut held = Held::default();
+    while let Some(case) = Case::read(&mut pairs).map_err(|why| (held.steps, why))? {
+        let recorded = recorded_outcome(&mut pairs, &case).map_err(|why| (held.steps, why))?;
+        let own = case.outcome();
+        if own == recorded {
+            held.agree += 1;
+        } else {
+            held.differences.push(format!(
+                "step {} differs\n{}{}",
+                held.steps,
+                case_in_words(&case),
+                differences_in_words(&case, ["here", "recorded"], [&own, &recorded])
+            ));
+        }
+        held.steps += 1;
+    }
+    Ok(held)
+}
+
+/// Makes pairs of a stream of cases and the stream of their outcomes.
+pub fn weave(mut cases: impl Read, mut outcomes: impl Read) -> Result<Vec<u8>, Bad> {
+    let mut pairs = Vec::new();
+    let mut number = 0;
+    while let Some(case) = Case::read(&mut cases).map_err(|why| (number, why))? {
+        case.write(&mut pairs);
+        let outcome = recorded_outcome(&mut outcomes, &case).map_err(|why| (number, why))?;
+        outcome.write(&mut pairs);
+        number += 1;
+    }
+    Ok(pairs)
+}
+
+fn recorded_outcome(from: &mut impl Read, case: &Case) -> Result<Outcome, BadInput> {
+    Ok(Outcome::read(from, case.bench.z.len(), case.bench.x.len())?)
+}

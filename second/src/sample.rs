@@ -1,0 +1,293 @@
+//! A sample of the generated cases that covers what is to be covered, small enough to be kept.
+
+use crate::cases::{Case, Outcome};
+use crate::decode::{decode, Family};
+use crate::generate;
+use crate::machine::{Answer, Refusal, SP};
+use crate::rules::{Right, Rules};
+use crate::wrong::VARIANTS;
+
+/// How many cases a sample has, and how many at least of each cell.
+pub const CASES: usize = 500;
+pub const EACH: usize = 3;
+/// How far the stream is searched for the rarest cell.
+const SEARCHED: u64 = 400_000;
+/// Behind this many cases a cell that is still wanted, such as an area at its limit, may be had
+/// from a large case.
+const PATIENCE: u64 = 15_000;
+/// The sizes up to which a case counts as small: both areas together, and the vector file.
+const SMALL_AREAS: u64 = 8192;
+const SMALL_FILE: usize = 2048;
+
+/// Why a word or a set-up is undefined, as far as the family can have it.
+#[derive(Clone, Copy, Debug, PartialEq, Eq)]
+pub enum Cause {
+    LoadBit,
+    SBit,
+    Rm31,
+    F64mm,
+    ShortVl,
+}
+
+/// Something that a sample must have.
+#[derive(Clone, Copy, Debug, PartialEq, Eq)]
+pub enum Cell {
+    /// A family with an answer.
+    Pair(Family, Answer),
+    /// A family with a cause of answer 3, the only one.
+    Undefined(Family, Cause),
+    /// A set-up that is refused for this cause alone.
+    Refused(Refusal),
+    Outside,
+    /// A load that ran, of this row of dtype, msz, or Q and size.
+    Row(Family, u32),
+    /// A load that ran at this VL.
+    Length(u64),
+    /// A load that ran with no active lane.
+    NoneActive(Family),
+    /// A fault behind lanes that were read.
+    LaterFault(Family),
+    /// A load that ran from the stack.
+    FromStack(Family),
+    /// A read around 2^64.
+    Wrapped,
+    Level(u32),
+    /// An area of exactly 65,536 bytes, accepted.
+    AtLimit,
+    /// A case that tells the wrong variant of this number from the right interpreter.
+    Tells(usize),
+}
+
+impl Cell {
+    /// Cases with an area at or over the limit are large: one of each is enough.
+    pub fn wanted(self) -> usize {
+        match self {
+            Cell::AtLimit | Cell::Refused(Refusal::FlashLimit | Refusal::RamLimit) => 1,
+            Cell::Tells(_) => 1,
+            _ => EACH,
+        }
+    }
+}
+
+/// The answers that a family can have.
+pub fn answers(family: Family) -> Vec<Answer> {
+    let undefined = !causes(family).is_empty();
+    let possible = |answer: &Answer| match answer {
+        Answer::Outside => false,
+        Answer::Undefined => undefined,
+        _ => true,
+    };
+    Answer::ALL.into_iter().filter(possible).collect()
+}
+
+/// The causes of answer 3 that a family can have.
+pub fn causes(family: Family) -> &'static [Cause] {
+    match family {
+        Family::Ld1rNoOffset | Family::Ld1rPostIndex => &[Cause::LoadBit, Cause::SBit],
+        Family::Ld1Scalar | Family::Ld1rqScalar => &[Cause::Rm31],
+        Family::Ld1roImmediate => &[Cause::F64mm, Cause::ShortVl],
+        Family::Ld1roScalar => &[Cause::Rm31, Cause::F64mm, Cause::ShortVl],
+        _ => &[],
+    }
+}
+
+/// How many rows of sizes a family has.
+fn rows(family: Family) -> u32 {
+    match family {
+        Family::Ld1rNoOffset | Family::Ld1rPostIndex => 8,
+        Family::Ld1rElement | Family::Ld1Immediate | Family::Ld1Scalar => 16,
+        _ => 4,
+    }
+}
+
+/// Everything that a sample must have.
+pub fn all_cells() -> Vec<Cell> {
+    let mut cells = vec![Cell::Outside, Cell::Wrapped, Cell::AtLimit];
+    cells.extend((0..=4).map(Cell::Level));
+    cells.extend((1..=16).map(|n| Cell::Length(128 * n)));
+    cells.extend(Refusal::ALL.map(Cell::Refused));
+    cells.extend((0..VARIANTS.len()).map(Cell::Tells));
+    for family in Family::ALL {
+        cells.extend(
+            answers(family)
+                .into_iter()
+                .map(|answer| Cell::Pair(family, answer)),
+        );
+        cells.extend(
+            causes(family)
+                .iter()
+                .map(|cause| Cell::Undefined(family, *cause)),
+        );
+        cells.extend((0..rows(family)).map(|row| Cell::Row(family, row)));
+        cells.push(Cell::FromStack(family));
+        if !family.is_ld1r() {
+            cells.push(Cell::NoneActive(family));
+        }
+        if !family.is_ld1r() && family != Family::Ld1rElement {
+            cells.push(Cell::LaterFault(family));
+        }
+    }
+    cells
+}
+
+/// The cells that a case with this outcome belongs to.
+pub fn cells_of(case: &Case, outcome: &Outcome) -> Vec<Cell> {
+    let bench = &case.bench;
+    let answer = Answer::ALL[usize::from(outcome.report.answer & 7)];
+    let mut cells = vec![Cell::Level(case.level)];
+    if answer == Answer::SetUp {
+        let mut causes = Refusal::ALL
+            .into_iter()
+            .filter(|cause| cause.applies(&Right, bench));
+        if let (Some(cause), None) = (causes.next(), causes.next()) {
+            cells.push(Cell::Refused(cause));
+        }
+    } else if bench.flash.len().max(bench.ram.len()) == Right.area_limit() {
+        cells.push(Cell::AtLimit);
+    }
+    match Family::of(case.word) {
+        None if answer == Answer::Outside => cells.push(Cell::Outside),
+        None => {}
+        Some(family) => {
+            cells.push(Cell::Pair(family, answer));
+            if answer == Answer::Undefined {
+                cells.extend(only_cause(case, family).map(|cause| Cell::Undefined(family, cause)));
+            }
+            cells.extend(cells_of_a_read(case, outcome, answer));
+        }
+    }
+    cells
+}
+
+/// The cells of a load that read, or ran without a read.
+fn cells_of_a_read(case: &Case, outcome: &Outcome, answer: Answer) -> Vec<Cell> {
+    let mut cells = Vec::new();
+    let bench = &case.bench;
+    let count = outcome.report.count;
+    let Ok(load) = decode(&Right, case.word, bench.f64mm) else {
+        return cells;
+    };
+    if matches!(answer, Answer::NoMemory | Answer::Denied) && count > 0 {
+        cells.push(Cell::LaterFault(load.family));
+    }
+    if answer != Answer::Ran {
+        return cells;
+    }
+    cells.push(Cell::Length(bench.vl));
+    cells.push(match count {
+        0 => Cell::NoneActive(load.family),
+        _ => Cell::Row(load.family, row(case.word, load.family)),
+    });
+    if load.n == SP && count > 0 {
+        cells.push(Cell::FromStack(load.family));
+    }
+    let lanes = load.lanes(bench.vl);
+    let address = |e| bench.x[load.n].wrapping_add(generate::distance(&load, bench, e));
+    let last = address(lanes - 1).wrapping_add(load.msize / 8 - 1);
+    if last < address(0) && count == lanes {
+        cells.push(Cell::Wrapped);
+    }
+    cells
+}
+
+/// The row of sizes of a word: dtype, msz, or Q above size.
+fn row(word: u32, family: Family) -> u32 {
+    match family {
+        Family::Ld1rNoOffset | Family::Ld1rPostIndex => word >> 30 << 2 | word >> 10 & 3,
+        Family::Ld1rElement => (word >> 23 & 3) << 2 | word >> 13 & 3,
+        Family::Ld1Immediate | Family::Ld1Scalar => word >> 21 & 15,
+        _ => word >> 23 & 3,
+    }
+}
+
+/// The cause of answer 3, if there is one alone.
+fn only_cause(case: &Case, family: Family) -> Option<Cause> {
+    let applies = |cause: &&Cause| match cause {
+        Cause::LoadBit => case.word >> 22 & 1 == 0,
+        Cause::SBit => case.word >> 12 & 1 == 1,
+        Cause::Rm31 => case.word >> 16 & 31 == 31,
+        Cause::F64mm => !case.bench.f64mm,
+        Cause::ShortVl => case.bench.vl < 256,
+    };
+    let mut causes = causes(family).iter().filter(applies);
+    match (causes.next(), causes.next()) {
+        (Some(cause), None) => Some(*cause),
+        _ => None,
+    }
+}
+
+/// A chosen sample: the bytes of its two files, and how often each cell occurs.
+pub struct Sample {
+    pub numbers: Vec<u64>,
+    pub cases: Vec<u8>,
+    pub outcomes: Vec<u8>,
+    pub cells: Vec<(Cell, usize)>,
+}
+
+impl Sample {
+    fn missing(&self) -> Option<Cell> {
+        let short = |(cell, had): &&(Cell, usize)| *had < cell.wanted();
+        self.cells.iter().find(short).map(|(cell, _)| *cell)
+    }
+
+    /// Whether the case has a cell of which there are not enough yet, and is small enough for it.
+    fn wants(&self, number: u64, case: &Case, cells: &[Cell]) -> bool {
+        let areas = case.bench.flash.len() + case.bench.ram.len() <= SMALL_AREAS;
+        let small = areas && case.bench.z.len() <= SMALL_FILE;
+        self.cells.iter().any(|(cell, had)| {
+            let fits = match cell {
+                Cell::Length(_) => areas,
+                _ => small || number >= PATIENCE,
+            };
+            *had < cell.wanted() && fits && cells.contains(cell)
+        })
+    }
+
+    /// The variants that no chosen case told apart yet, and this one does.
+    fn newly_told(&self, case: &Case, outcome: &Outcome) -> Vec<Cell> {
+        let told = |(cell, had): &(Cell, usize)| match cell {
+            Cell::Tells(number) if *had == 0 => VARIANTS[*number].outcome(case) != *outcome,
+            _ => false,
+        };
+        let cells = self.cells.iter().filter(|cell| told(cell));
+        cells.map(|(cell, _)| *cell).collect()
+    }
+
+    fn take(&mut self, number: u64, case: &Case, outcome: &Outcome, cells: &[Cell]) {
+        self.numbers.push(number);
+        case.write(&mut self.cases);
+        outcome.write(&mut self.outcomes);
+        for (cell, had) in &mut self.cells {
+            *had += usize::from(cells.contains(cell));
+        }
+    }
+}
+
+/// Chooses a sample out of the stream of a seed: whatever brings a cell that is still wanted,
+/// and then small cases that ran or faulted, until there are enough.
+pub fn sample(seed: u64) -> Result<Sample, String> {
+    let mut sample = Sample {
+        numbers: Vec::new(),
+        cases: Vec::new(),
+        outcomes: Vec::new(),
+        cells: all_cells().into_iter().map(|cell| (cell, 0)).collect(),
+    };
+    for number in 0..SEARCHED {
+        let complete = sample.missing().is_none();
+        if complete && sample.numbers.len() >= CASES {
+            return Ok(sample);
+        }
+        let case = generate::case(seed, number);
+        let outcome = case.outcome();
+        let mut cells = cells_of(&case, &outcome);
+        cells.extend(sample.newly_told(&case, &outcome));
+        let filler = complete && case.size() < 2 * SMALL_FILE;
+        if filler || sample.wants(number, &case, &cells) {
+            sample.take(number, &case, &outcome, &cells);
+        }
+    }
+    Err(match sample.missing() {
+        Some(cell) => format!("{SEARCHED} cases of seed {seed} have too few of {cell:?}"),
+        None => format!("{SEARCHED} cases of seed {seed} make no {CASES} for a sample"),
+    })
+}

@@ -1,0 +1,192 @@
+//! Deliberately wrong interpreters. A set of cases is worth something if it tells each of them
+//! from the right one. A variant bends one small rule (`bent.rs`), or does something of its own
+//! with the right interpreter's help (`instead.rs`).
+
+mod bent;
+mod instead;
+
+use crate::cases::{Case, Outcome};
+use crate::rules::Rules;
+
+pub struct Variant {
+    pub name: &'static str,
+    how: How,
+}
+
+#[derive(Clone, Copy)]
+enum How {
+    Bent(&'static dyn Rules),
+    Instead(fn(&Case) -> Outcome),
+}
+
+impl Variant {
+    pub fn outcome(&self, case: &Case) -> Outcome {
+        match self.how {
+            How::Bent(rules) => case.outcome_under(rules),
+            How::Instead(outcome) => outcome(case),
+        }
+    }
+}
+
+const fn bent(name: &'static str, rules: &'static dyn Rules) -> Variant {
+    Variant {
+        name,
+        how: How::Bent(rules),
+    }
+}
+
+const fn instead(name: &'static str, outcome: fn(&Case) -> Outcome) -> Variant {
+    Variant {
+        name,
+        how: How::Instead(outcome),
+    }
+}
+
+/// Every variant; the first seven are the faults that were already paid for (document 01).
+pub const VARIANTS: &[Variant] = &[
+    instead(
+        "an inactive lane keeps its old value",
+        instead::inactive_keeps,
+    ),
+    bent("any bit of a group makes its lane active", &bent::AnyBit),
+    instead(
+        "a whole vector is fetched, then masked",
+        instead::fetched_then_masked,
+    ),
+    bent("LD1 immediate scaled by active lanes", &bent::ByActiveLanes),
+    bent(
+        "LD1 immediate scaled by bytes of one lane",
+        &bent::ByOneLane,
+    ),
+    instead(
+        "lanes before a fault are written",
+        instead::written_before_fault,
+    ),
+    instead(
+        "LD1R with Q=0 keeps the upper part",
+        instead::q0_keeps_upper,
+    ),
+    // The set-up
+    bent("VL 2,176 accepted", &bent::Vl2176),
+    bent("only powers of two accepted as VL", &bent::PowerOfTwo),
+    bent("area limit one too large", &bent::LimitPlusOne),
+    bent("area limit one too small", &bent::LimitMinusOne),
+    bent("one rights byte too many accepted", &bent::RightsMore),
+    bent("one rights byte too few accepted", &bent::RightsLess),
+    bent(
+        "a start that is no multiple of 4,096 accepted",
+        &bent::AnyStart,
+    ),
+    bent("an area that ends at 2^64 refused", &bent::EndRefused),
+    bent("an area that runs over 2^64 accepted", &bent::AnyEnd),
+    bent("overlapping areas accepted", &bent::OverlapAccepted),
+    bent("touching areas refused", &bent::TouchingRefused),
+    bent("empty areas that overlap refused", &bent::EmptyOverlap),
+    instead("more than 33 scalars accepted", instead::more_scalars),
+    instead("a long vector file accepted", instead::long_vector_file),
+    // The word
+    bent("dtype rows 4 and 8 swapped", &bent::Rows4And8),
+    bent("dtype rows 2 and 6 swapped", &bent::Rows2And6),
+    instead("dh and dl swapped", instead::dh_dl_swapped),
+    bent("signed immediate read as unsigned", &bent::Unsigned4),
+    instead("S=1 tolerated", instead::s_tolerated),
+    instead("L=0 tolerated", instead::l_tolerated),
+    bent("Rm = 31 of an SVE scalar form tolerated", &bent::Rm31),
+    instead("F64MM not asked", instead::f64mm_not_asked),
+    instead("LDNF1 taken for LD1 immediate", instead::ldnf1),
+    instead("LD1R no offset with any Rm field", instead::any_rm),
+    // Switches and stack
+    instead("LD1R asks the SVE switch", instead::ld1r_asks_sve),
+    instead("SVE loads ask the SIMD switch too", instead::sve_asks_simd),
+    instead("short VL told before the switch", instead::short_vl_first),
+    instead(
+        "the switch told before an undefined word",
+        instead::switch_first,
+    ),
+    bent("SP a multiple of 8 is enough", &bent::SpEight),
+    bent("post-index LD1R without the SP check", &bent::PostNoSp),
+    bent(
+        "block loads check SP over the whole predicate",
+        &bent::WholePredicate,
+    ),
+    bent(
+        "SVE loads check SP with no active lane",
+        &bent::SpNoneActive,
+    ),
+    instead("the stack told after the memory", instead::stack_last),
+    instead("Rn = 31 read as zero", instead::rn31_zero),
+    instead("Rn = 31 read as X30", instead::rn31_x30),
+    // Addresses
+    bent("LD1 immediate scaled by register bytes", &bent::ByRegister),
+    bent(
+        "LD1R by element: imm6 scaled by lane bytes",
+        &bent::Imm6ByLane,
+    ),
+    bent("LD1 scalar: Xm scaled by lane bytes", &bent::XmByLane),
+    bent("LD1 scalar: Xm not scaled", &bent::XmNotScaled),
+    bent("LD1RO immediate counts 16 bytes", &bent::BlockSixteen),
+    bent("element addresses stop at 2^64", &bent::NoWrap),
+    bent("bytes of an element stop at 2^64", &bent::NoByteWrap),
+    // Memory
+    bent(
+        "highest byte of an element looked at first",
+        &bent::HighestFirst,
+    ),
+    bent(
+        "highest byte of an element at the lowest address",
+        &bent::BigEndian,
+    ),
+    bent("rights bit 1 looked at", &bent::RightBit1),
+    bent("any rights bit lets read", &bent::AnyRight),
+    instead(
+        "denied page under an inactive lane faults",
+        instead::denied_inactive,
+    ),
+    instead("lanes looked at downward", instead::downward),
+    // What is answered
+    instead("6 and 7 exchanged", instead::exchanged),
+    instead(
+        "the count told as the faulting lane",
+        instead::count_as_lane,
+    ),
+    instead(
+        "the count includes the faulting lane",
+        instead::count_with_fault,
+    ),
+    instead("the count of copies", instead::count_of_copies),
+    instead(
+        "a fault tells its element's first address",
+        instead::first_address,
+    ),
+    // What is written
+    bent("sign extension missing", &bent::NoSign),
+    bent("sign extension from the bit below", &bent::SignBelow),
+    bent(
+        "LD1R by element: lanes at memory size",
+        &bent::LanesAtMemorySize,
+    ),
+    instead("Q=0 fills 128 bits", instead::q0_fills_128),
+    instead(
+        "LD1R keeps the register above 128 bits",
+        instead::ld1r_keeps_z,
+    ),
+    instead(
+        "copies of a block ask their own predicate bit",
+        instead::copies_ask,
+    ),
+    instead("left-over bytes of LD1RO filled", instead::left_over_filled),
+    instead("post-index with Rm = 31 adds 1", instead::rm31_adds_1),
+    instead(
+        "post-index with Rm = 31 adds nothing",
+        instead::rm31_adds_nothing,
+    ),
+    instead(
+        "post-index adds Xm as it is after the size",
+        instead::rm_after,
+    ),
+    instead("base written back after a fault", instead::base_after_fault),
+    instead("SP not written back", instead::sp_not_written),
+    instead("PC + 0", instead::pc_stays),
+    instead("PC stops at 2^64", instead::pc_stops),
+    instead("PC grows after a fault", instead::pc_after_fault),
+];

@@ -1,0 +1,235 @@
+//! The program's commands: what they say and how they end.
+
+use std::fs;
+use std::io::Write;
+use std::path::{Path, PathBuf};
+use std::process::{Command, Output, Stdio};
+use std::thread;
+
+const SECOND: &str = env!("CARGO_BIN_EXE_second");
+
+fn place(name: &str) -> PathBuf {
+    Path::new(env!("CARGO_TARGET_TMPDIR")).join(name)
+}
+
+/// Runs `second` with this input; gives exit status, output, and lines of standard error.
+fn run(arguments: &[&str], input: &[u8]) -> (i32, Vec<u8>, String) {
+    let mut child = Command::new(SECOND)
+        .args(arguments)
+        .stdin(Stdio::piped())
+        .stdout(Stdio::piped())
+        .stderr(Stdio::piped())
+        .spawn()
+        .expect("second starts");
+    let mut stdin = child.stdin.take().expect("a pipe");
+    let input = input.to_vec();
+    // In a thread of its own, since the output is read at the same time; a command that does not
+    // read its input closes the pipe
+    let writer = thread::spawn(move || stdin.write_all(&input).unwrap_or_default());
+    let Output {
+        status,
+        stdout,
+        stderr,
+    } = child.wait_with_output().expect("second ends");
+    writer.join().expect("written");
+    let stderr = String::from_utf8(stderr).expect("text");
+    (status.code().expect("no signal"), stdout, stderr)
+}
+
+fn text(output: Vec<u8>) -> String {
+    String::from_utf8(output).expect("text")
+}
+
+/// A program for `--replay`: a shell script with this line.
+fn script(name: &str, line: &str) -> String {
+    use std::os::unix::fs::PermissionsExt;
+    let path = place(name);
+    fs::write(&path, format!("#!/bin/sh\n{line}\n")).expect("written");
+    fs::set_permissions(&path, fs::Permissions::from_mode(0o755)).expect("executable");
+    path.to_str().expect("UTF-8").to_string()
+}
+
+fn compare(program: &str, count: &str) -> (i32, String, String) {
+    let arguments = [
+        "compare", "--seed", "4", "--count", count, "--replay", program,
+    ];
+    let (status, output, errors) = run(&arguments, &[]);
+    (status, text(output), errors)
+}
+
+#[test]
+fn help_and_bad_arguments() {
+    let (status, output, _) = run(&["--help"], &[]);
+    let help = text(output);
+    assert_eq!(status, 0);
+    for command in ["answer", "compare", "case", "sharp", "sample", "words"] {
+        assert!(help.contains(&format!("second {command}")));
+    }
+    let bad: [&[&str]; 9] = [
+        &[],
+        &["nothing"],
+        &["answer", "more"],
+        &["compare", "--seed", "1"],
+        &["compare", "--seed", "x", "--count", "1"],
+        &["compare", "--seed"],
+        &["case", "--seed", "1", "--seed", "2"],
+        &["case", "--seed", "18446744073709551616", "--number", "0"],
+        &["sample", "--seed", "1", "--cases", "a"],
+    ];
+    for arguments in bad {
+        let (status, output, errors) = run(arguments, &[]);
+        assert_eq!((status, output.len()), (2, 0), "{arguments:?}");
+        assert_eq!(errors.lines().count(), 1, "{arguments:?}");
+    }
+}
+
+#[test]
+fn answer_ends_with_one_line_at_a_bad_case() {
+    assert_eq!(run(&["answer"], &[]), (0, vec![], String::new()));
+    let (status, output, errors) = run(&["answer"], b"KKJ2");
+    assert_eq!((status, output.len()), (1, 0));
+    assert_eq!(errors, "second: case 0: wrong magic 4B 4B 4A 32\n");
+}
+
+#[test]
+fn compare_finds_no_difference_to_itself() {
+    let program = script("same", &format!("exec '{SECOND}' answer"));
+    let (status, output, _) = compare(&program, "3000");
+    assert_eq!(status, 0);
+    assert!(output.contains("3000 cases") && output.contains("no difference"));
+    assert!(output.contains("LD1RO scalar"));
+    assert_eq!(compare(&program, "0").0, 0);
+}
+
+#[test]
+fn compare_shows_the_first_difference() {
+    let program = script("other", &format!("'{SECOND}' answer | tr '\\007' '\\006'"));
+    let (status, output, _) = compare(&program, "3000");
+    assert_eq!(status, 1);
+    for part in [
+        "difference at case",
+        "word ",
+        "flash: start",
+        "second: ",
+        "replay: ",
+    ] {
+        assert!(output.contains(part), "{part}");
+    }
+    let repeat = output.lines().last().expect("a line");
+    assert!(repeat.starts_with("repeat: second case --seed 4 --number "));
+}
+
+#[test]
+fn compare_tells_when_the_program_does_not_work() {
+    let lines = [
+        (
+            "early",
+            "exec true".to_string(),
+            "ends before the outcome of case 0",
+        ),
+        (
+            "more",
+            format!("'{SECOND}' answer; echo more"),
+            "wrote more",
+        ),
+        (
+            "failing",
+            format!("'{SECOND}' answer; exit 3"),
+            "exit status: 3",
+        ),
+        (
+            "cut",
+            format!("'{SECOND}' answer | head -c 5000"),
+            "ends before the outcome",
+        ),
+    ];
+    for (name, line, why) in lines {
+        let (status, output, errors) = compare(&script(name, &line), "300");
+        assert_eq!((status, output.as_str()), (2, ""), "{name}");
+        let last = errors.lines().last().expect("a line");
+        assert!(
+            last.starts_with("second: ") && last.contains(why),
+            "{errors}"
+        );
+    }
+    let missing = place("missing");
+    let (status, _, errors) = compare(missing.to_str().expect("UTF-8"), "3");
+    assert_eq!((status, errors.lines().count()), (2, 1));
+}
+
+#[test]
+fn a_case_is_shown_and_written_and_answered() {
+    let file = place("case");
+    let file = file.to_str().expect("UTF-8");
+    let arguments = ["case", "--seed", "1", "--number", "15", "--bytes", file];
+    let (status, output, _) = run(&arguments, &[]);
+    assert_eq!(status, 0);
+    assert!(text(output).contains("case 15 of seed 1"));
+    let (status, output, _) = run(&["answer"], &fs::read(file).expect("written"));
+    assert_eq!(status, 0);
+    assert!(output.len() > 25);
+}
+
+#[test]
+fn sharp_tells_all_apart_or_says_so() {
+    let (status, output, _) = run(&["sharp", "--seed", "1"], &[]);
+    assert_eq!(status, 0);
+    assert!(text(output).contains("0 not told apart"));
+    let (status, output, _) = run(&["sharp", "--limit", "3"], &[]);
+    assert_eq!(status, 1);
+    assert!(text(output).contains("not told apart"));
+}
+
+#[test]
+fn a_sample_is_written_and_checked() {
+    let files = [place("sample.cases"), place("sample.outcomes")];
+    let [cases, outcomes] = files.each_ref().map(|file| file.to_str().expect("UTF-8"));
+    let arguments = [
+        "sample",
+        "--seed",
+        "1",
+        "--cases",
+        cases,
+        "--outcomes",
+        outcomes,
+    ];
+    assert_eq!(run(&arguments, &[]).0, 0);
+    let check = [&arguments[..], &["--check"]].concat();
+    assert_eq!(run(&check, &[]).0, 0);
+    let (status, output, _) = run(&["answer"], &fs::read(cases).expect("written"));
+    assert_eq!(status, 0);
+    assert!(output == fs::read(outcomes).expect("written"));
+    let mut other = output;
+    other.pop();
+    fs::write(outcomes, other).expect("written");
+    let (status, _, errors) = run(&check, &[]);
+    assert_eq!((status, errors.lines().count()), (1, 1));
+}
+
+#[test]
+fn words_agree_or_are_shown() {
+    let (status, output, _) = run(&["words"], b"85c0e000 ld1rd {z0.d}, p0/z, [x0]\n");
+    assert_eq!((status, text(output).lines().count()), (0, 1));
+    let (status, output, _) = run(&["words"], b"85c0e000 nop\n");
+    assert_eq!((status, text(output).lines().count()), (1, 2));
+}
+
+#[test]
+fn a_closed_pipe_is_no_panic() {
+    for arguments in [
+        vec!["--help"],
+        vec!["sharp"],
+        vec!["case", "--seed", "1", "--number", "1"],
+    ] {
+        let mut child = Command::new(SECOND)
+            .args(arguments)
+            .stdout(Stdio::piped())
+            .stderr(Stdio::piped())
+            .spawn()
+            .expect("second starts");
+        drop(child.stdout.take());
+        let output = child.wait_with_output().expect("second ends");
+        assert!(output.stderr.is_empty());
+        assert!(output.status.code().is_some_and(|status| status < 2));
+    }
+}
