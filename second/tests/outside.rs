@@ -24,8 +24,8 @@ fn every_recorded_step_agrees() {
 fn every_printed_word_agrees() {
     let judged = judge(stdin_of("binutils").as_slice()).expect("lines of text");
     assert_eq!(judged.disagreements, Vec::<String>::new());
-    assert_eq!((judged.same_family, judged.lines), (36_000, 36_000));
-    assert_eq!((judged.same_text, judged.loads), (6_491, 6_491));
+    assert_eq!((judged.same_family, judged.lines), (38_000, 38_000));
+    assert_eq!((judged.same_text, judged.loads), (7_900, 7_900));
 }
 
 #[test]
