@@ -5,6 +5,7 @@
 
 pub mod answer;
 pub mod assembly;
+pub mod broken;
 pub mod cases;
 pub mod compare;
 pub mod decode;

@@ -7,6 +7,7 @@ use std::process::ExitCode;
 use std::time::Instant;
 
 use second::answer::{answer, Ended};
+use second::broken;
 use second::compare::{compare, Found};
 use second::describe::{case_in_words, outcome_in_words};
 use second::generate;
@@ -22,6 +23,8 @@ second: a second interpreter of Arm vector loads, written apart
       answers a stream of cases, as replay does
   second compare --seed S --count N [--replay PROGRAM]
       compares N generated cases with PROGRAM (default ./replay)
+  second broken [--seed S] [--replay PROGRAM]
+      sends broken streams through PROGRAM: what was answered stands, and one line says why
   second case --seed S --number K [--bytes FILE]
       shows one generated case and its outcome in words; writes its bytes
   second sharp [--seed S] [--limit N]
@@ -84,6 +87,7 @@ fn run() -> Result<(), Trouble> {
         "--help" | "-h" | "help" => say(HELP),
         "answer" => run_answer(rest),
         "compare" => run_compare(rest),
+        "broken" => run_broken(rest),
         "case" => run_case(rest),
         "sharp" => run_sharp(rest),
         "sample" => run_sample(rest),
@@ -188,6 +192,16 @@ fn run_compare(words: &[String]) -> Result<(), Trouble> {
             ))
         }
     }
+}
+
+fn run_broken(words: &[String]) -> Result<(), Trouble> {
+    let options = Options::read(words, &["--seed", "--replay"], &[])?;
+    let streams = broken::streams(options.number("--seed", Some(1))?);
+    let program = options.text("--replay").unwrap_or("./replay");
+    for stream in &streams {
+        broken::hold(program, stream).map_err(|why| Trouble::Line(1, why))?;
+    }
+    say(&format!("{} streams as they should be\n", streams.len()))
 }
 
 fn run_case(words: &[String]) -> Result<(), Trouble> {

@@ -38,7 +38,7 @@ pub fn hold(mut pairs: impl Read) -> Result<Held, Bad> {
     Ok(held)
 }
 
-/// Makes pairs of a stream of cases and the stream of their outcomes.
+/// Makes pairs of a stream of cases and the stream of their outcomes, which end together.
 pub fn weave(mut cases: impl Read, mut outcomes: impl Read) -> Result<Vec<u8>, Bad> {
     let mut pairs = Vec::new();
     let mut number = 0;
@@ -48,7 +48,12 @@ pub fn weave(mut cases: impl Read, mut outcomes: impl Read) -> Result<Vec<u8>, B
         outcome.write(&mut pairs);
         number += 1;
     }
-    Ok(pairs)
+    let mut more = [0];
+    match outcomes.read(&mut more) {
+        Ok(0) => Ok(pairs),
+        Ok(_) => Err((number, BadInput::EndsInside)),
+        Err(error) => Err((number, error.into())),
+    }
 }
 
 fn recorded_outcome(from: &mut impl Read, case: &Case) -> Result<Outcome, BadInput> {

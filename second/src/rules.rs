@@ -1,5 +1,5 @@
 //! The small decisions of document 01, one method each. The methods as they stand are the right
-//! ones; a deliberately wrong variant overrides one of them (`wrong.rs`).
+//! ones; a deliberately wrong variant overrides one of them (`wrong/`).
 
 use crate::machine::{Area, Mask, PAGE};
 

@@ -32,7 +32,8 @@ pub fn judge(input: impl BufRead) -> io::Result<Judged> {
 fn judge_line(line: &str, judged: &mut Judged) {
     judged.lines += 1;
     let (word, text) = line.split_once(char::is_whitespace).unwrap_or((line, ""));
-    let Ok(word) = u32::from_str_radix(word, 16) else {
+    let digits = word.len() == 8 && word.bytes().all(|byte| byte.is_ascii_hexdigit());
+    let (true, Ok(word)) = (digits, u32::from_str_radix(word, 16)) else {
         judged
             .disagreements
             .push(format!("{line}: no word of eight hexadecimal digits"));

@@ -62,7 +62,10 @@ fn help_and_bad_arguments() {
     let (status, output, _) = run(&["--help"], &[]);
     let help = text(output);
     assert_eq!(status, 0);
-    for command in ["answer", "compare", "case", "sharp", "sample", "words"] {
+    let commands = [
+        "answer", "broken", "compare", "case", "recorded", "sharp", "sample", "weave", "words",
+    ];
+    for command in commands {
         assert!(help.contains(&format!("second {command}")));
     }
     let bad: [&[&str]; 9] = [
@@ -232,4 +235,44 @@ fn a_closed_pipe_is_no_panic() {
         assert!(output.stderr.is_empty());
         assert!(output.status.code().is_some_and(|status| status < 2));
     }
+}
+
+#[test]
+fn broken_streams_are_told_from_good_ones() {
+    let second = env!("CARGO_BIN_EXE_second");
+    let right = script("answers", &format!("exec {second} answer"));
+    let (status, output, _) = run(&["broken", "--replay", &right], &[]);
+    assert_eq!(status, 0, "{}", text(output));
+    // One that loses what was answered before, and one that says nothing
+    let loses = script("loses", &format!("exec {second} answer | head -c 100"));
+    let silent = script("silent", &format!("exec {second} answer 2> /dev/null"));
+    for program in [loses, silent] {
+        let (status, _, errors) = run(&["broken", "--replay", &program], &[]);
+        assert_eq!((status, errors.lines().count()), (1, 1), "{errors}");
+    }
+}
+
+#[test]
+fn pairs_are_woven_and_held() {
+    let (cases, outcomes) = (place("woven-cases"), place("woven-outcomes"));
+    let (cases, outcomes) = (
+        cases.to_str().expect("UTF-8"),
+        outcomes.to_str().expect("UTF-8"),
+    );
+    let files = ["--cases", cases, "--outcomes", outcomes];
+    let sample = [&["sample", "--seed", "3"], files.as_slice()].concat();
+    assert_eq!(run(&sample, &[]).0, 0);
+    let weave = [&["weave"], files.as_slice()].concat();
+    let (status, pairs, _) = run(&weave, &[]);
+    assert_eq!(status, 0);
+    let (status, output, _) = run(&["recorded"], &pairs);
+    assert_eq!(
+        (status, text(output).as_str()),
+        (0, "500 of 500 recorded steps agree\n")
+    );
+    let mut more = fs::read(outcomes).expect("read");
+    more.push(0);
+    fs::write(outcomes, more).expect("written");
+    let (status, pairs, errors) = run(&weave, &[]);
+    assert_eq!((status, pairs.len(), errors.lines().count()), (1, 0, 1));
 }

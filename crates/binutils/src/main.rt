@@ -24,6 +24,14 @@ struct Run {
     agree: [u64; 12],
 }
 
+// The row of a block load.
+fn block_family(wide: bool, offset: Offset) -> usize {
+    match offset {
+        Offset::Imm(_) => if wide { 7 } else { 5 },
+        Offset::Reg(_) => if wide { 8 } else { 6 },
+    }
+}
+
 // The row of a load: its family.
 fn family(insn: Insn) -> usize {
     match insn {
@@ -61,10 +69,7 @@ fn family(insn: Insn) -> usize {
             pg: _,
             rn: _,
             zt: _,
-        } => match offset {
-            Offset::Imm(_) => if wide { 7 } else { 5 },
-            Offset::Reg(_) => if wide { 8 } else { 6 },
-        },
+        } => block_family(wide, offset),
     }
 }
 
@@ -86,8 +91,8 @@ fn told(decoded: Decoded) -> Text {
     }
 }
 
-// Whether what a word is agrees with binutils' text. That the text of each load is a listed one says nothing of the word; it holds the
-// test that the other words rest on.
+// Whether what a word is agrees with binutils' text. The text of a load must also pass `listed`, so that the loads test the test
+// that the other words rest on.
 fn agrees(decoded: Decoded, text: &[u8]) -> bool {
     let listed = printed::listed(text);
     match decoded {

@@ -5,7 +5,7 @@ use mathlib.Core.Bool.{Bool, not}
 use mathlib.Core.List.{List, [], _∷_}
 use lib.Dec.{eqb, ltb}
 use lib.ListN.{length}
-use Rattle.ground.specs.Choices.{Row, _⇒_, firstOf}
+use Rattle.ground.specs.Choices.{_⇒_, firstOf}
 use Rattle.ground.specs.Lists.{bytesAt}
 use Rattle.cases.specs.Parts.{caseBytes}
 use Rattle.cases.specs.declared.Case.{Case}
@@ -65,7 +65,7 @@ openedOf s =
     ∷ [])
     (limited (headOf s))
 
--- what the functions below `answer` are given of a case that bytes open with: its length, and that no sum of it wraps
+-- what the functions below `answer` are given of a case that bytes open with: its length, and two bounds, so that no sum of theirs wraps
 abbrev pub Fine : Opened → Type 0
 Fine (Broken why) = Unit {0}
 Fine (Holds c n) = (n ≡ caseBytes c) × (c .z ≤ 65536) × (c .x ≤ 128)

@@ -82,7 +82,7 @@ fn put_report(dst: &mut [u8], result: StepResult)
 }
 
 // Answers a case: its outcome over the first bytes of what is lent for it. z is stepped where it lies in the outcome, so that
-// no file is moved twice; x is where the scalars are stepped.
+// the vector file is moved once; the scalars are stepped in x.
 fn outcome(out: &mut [u8], x: &mut [u64], s: &[u8], case: Case)
     requires { ⌜ (length (now x) ≡ case .x) × (outcomeLength case ≤ length (now out)) × (caseBytes case ≤ length (now s)) ⌝ }
     ensures { λ _. ⌜ now (out .exit) ≡ outcomeIn (now (s .entry)) case (now (out .entry)) ⌝ }
@@ -101,7 +101,7 @@ fn scalars() -> [u64; 128]
     [0; 128]
 }
 
-// The same, with room for the scalars.
+// Answers a case as `outcome` does, with room for its scalars.
 pub(crate) fn written(out: &mut [u8], s: &[u8], case: Case)
     requires { ⌜ (case .x ≤ 128) × (outcomeLength case ≤ length (now out)) × (caseBytes case ≤ length (now s)) ⌝ }
     ensures { λ _. ⌜ now (out .exit) ≡ outcomeIn (now (s .entry)) case (now (out .entry)) ⌝ }

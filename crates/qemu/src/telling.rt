@@ -34,13 +34,15 @@ impl Tally {
         }
     }
 
-    // One step more. There are eight answers; a recorded one above 7 agrees with nothing.
+    // One step more, told where it differs. There are eight answers; a recorded one above 7 has no row, and agrees with nothing.
     pub(crate) fn with(self, number: u64, answer: u8, same: bool) -> Tally {
         let mut agree = self.agree;
         let mut all = self.all;
         let mut agreed = self.agreed;
         let at = (answer % 8) as usize;
-        all[at] = std::num::wrapping_add_u64(all[at], 1);
+        if answer < 8 {
+            all[at] = std::num::wrapping_add_u64(all[at], 1);
+        }
         if same {
             agree[at] = std::num::wrapping_add_u64(agree[at], 1);
             agreed = std::num::wrapping_add_u64(agreed, 1);

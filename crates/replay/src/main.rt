@@ -16,12 +16,21 @@ fn read_part(stream: &mut [u8], from: usize, to: usize) -> usize {
     0
 }
 
-// The end of the input, or input that cannot be read.
-fn ended(number: u64) {
-    let mut more = [0u8; 1];
-    if libc::read(STDIN_FILENO, &mut more) < 0 {
-        telling::say(number, b"standard input cannot be read");
+// Reads a head, and answers how many bytes of it came: none at the end of the input, or where it cannot be read.
+fn read_head(number: u64, stream: &mut [u8]) -> usize {
+    if stream.len() < 96 {
+        return 0;
     }
+    let got = libc::read(STDIN_FILENO, &mut stream[0..96]);
+    if got < 0 {
+        telling::say(number, b"standard input cannot be read");
+        return 0;
+    }
+    let n = io::count(got, stream);
+    if n == 0 {
+        return 0;
+    }
+    std::num::wrapping_add_usize(n, read_part(stream, n, 96))
 }
 
 // Writes an outcome, and answers whether it is written.
@@ -35,7 +44,7 @@ fn write_outcome(number: u64, out: &[u8], given: usize) -> bool {
     false
 }
 
-// Answers a case of n bytes in all or fewer, and answers whether there is more to do.
+// Answers the case in the first n bytes, and answers whether to go on. The buffer has room for every case.
 fn answered(number: u64, stream: &[u8], n: usize, out: &mut [u8]) -> bool {
     if n <= stream.len() {
         match cases::answer(&stream[0..n], out) {
@@ -48,9 +57,8 @@ fn answered(number: u64, stream: &[u8], n: usize, out: &mut [u8]) -> bool {
 
 // Reads a case and answers it: first its head, which says how long it is, and then the rest.
 fn one_case(number: u64, stream: &mut [u8], out: &mut [u8]) -> bool {
-    let got = read_part(stream, 0, 96);
+    let got = read_head(number, stream);
     if got == 0 {
-        ended(number);
         return false;
     }
     if stream.len() < got {
@@ -80,7 +88,7 @@ fn all_cases(stream: &mut [u8], out: &mut [u8]) {
 }
 
 fn main() {
-    // the longest case, and the longest outcome
+    // the longest case, and the longest outcome: `longest` of crates/cases/proofs/Heads.antt
     let mut stream = [0u8; 333024];
     let mut out = [0u8; 66585];
     all_cases(&mut stream, &mut out);
