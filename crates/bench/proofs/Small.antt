@@ -1,8 +1,11 @@
 -- Products and quotients of an element's or a lane's number that are small enough.
-use Prim.Native.Nat.{ℕ, _+_, _*_, _/_, _%_, _≤_, _<_}
+use Prim.Native.Nat.{ℕ, _+_, _-_, _*_, _/_, _%_, _≤_, _<_}
 use mathlib.Core.Path.{_≡_}
-use native.Mathlib.Nat.{suc-mul, mul-le-mul-right}
+use native.Mathlib.Nat.{suc-mul, mul-le-mul-right, le-trans}
 use native.Mathlib.Omega.{arith}
+use mir.Facts.{fits-below}
+use mir.Syntax.{w64}
+use mir.Val.{Fits}
 use Rattle.ground.specs.Sizes.{bytesOf}
 use Rattle.ground.specs.declared.Size.{Size}
 use Rattle.ground.specs.declared.Size.the-variants.{B8, B16, B32, B64}
@@ -39,3 +42,14 @@ module _ (n l : ℕ) where
 -- one of m parts of n bytes lies within them
 pub slot : (t m n : ℕ) → t < m → t * n + n ≤ m * n
 slot t m n h = omega (arith, suc-mul t n, mul-le-mul-right n h)
+
+-- the one after k, of n
+module _ {k n : ℕ} (h : k < n) where
+  pub next : k + 1 ≤ n
+  next = omega arith
+
+  pub less : n - (k + 1) < n - k
+  less = omega arith
+
+  pub next-fits : n ≤ 256 → Fits w64 (k + 1)
+  next-fits few = fits-below {n = 256} tt (le-trans next few)

@@ -1,6 +1,5 @@
 -- `accepted_step` meets its contract: what was prepared is what is planned, and a plan that goes is sound.
-use mathlib.Core.Path.{_∙_}
-use borrow.Author.Needs.{needs}
+use mathlib.Core.Path.{refl, _∙_}
 use Rattle.loads.proofs.Accepts.{accepted-exactly}
 use Rattle.plans.proofs.Prepares.{planned-sound}
 use Rattle.bench.proofs.Ends.{prepares, stops, goes}
@@ -14,7 +13,7 @@ accepted-step-spec =
     let g = c .before .before .before .before .before .before .before .before .before .before .before .before .before .before in
     let a = accepted-exactly _ _ .0 (g .pre) in
     (g .pre, planned-sound _ _ (a .least) (a .most) _ _ (prepares _ _ _ (g .pre) _ (c .before .before .before .before .before .prepare .ensures) ∙ c .before .before .before .plan .given .1)))
-    (λ c. search needs)
+    (λ c. refl)
     (λ c. stops _ _ _ _ (prepares _ _ _ (c .before .before .before .before .before .before .before .before .before .before .before .before .before .pre) _ (c .before .before .before .before .prepare .ensures) ∙ c .before .before .answer .given .1) _ (c .ended .ensures))
-    (λ c. search needs) (λ c. search needs)
+    (λ c. c .before .before .before .z .given) (λ c. c .before .x .given)
     (λ c. goes _ _ _ _ (prepares _ _ _ (c .before .before .before .before .before .before .before .before .before .before .before .before .before .before .before .before .before .before .before .pre) _ (c .before .before .before .before .before .before .before .before .before .before .prepare .ensures) ∙ c .before .before .before .before .before .before .before .before .plan .given .1) _ _ (c .before .before .before .before .carry .ensures)))

@@ -2,8 +2,12 @@
 -- The measure is how many bytes are left.
 use borrow.Author.Needs.{needs}
 use mathlib.Core.Path.{sym, _∙_}
-use Prim.Native.Nat.{_-_}
+use Prim.Native.Nat.{ℕ, _+_, _-_, _*_, _≤_, _<_}
+use native.Mathlib.Nat.{le-of-lt}
 use native.Mathlib.Omega.{arith}
+use mir.Facts.{fits-below}
+use mir.Syntax.{w64}
+use mir.Val.{Fits}
 use Rattle.memory.specs.Areas.{areasOf}
 use Rattle.memory.specs.Bytes.{lookOf}
 use Rattle.memory.specs.Troubles.{nowhere, denied}
@@ -22,14 +26,28 @@ abbrev μ-loop : tie.MeasureT-loop
 abbrev G : tie.In-loop Inv-loop μ-loop → tie.Start Inv-loop μ-loop
 G t = t .before .before .before .before .before .before
 
+-- byte i of at most eight
+module _ {i n : ℕ} (h : i < n) (few : n ≤ 8) where
+  scaled-small : 8 * i < 64
+  scaled-small = omega arith
+
+  scaled-fits : Fits w64 (8 * i)
+  scaled-fits = fits-below {n = 64} tt (le-of-lt scaled-small)
+
+  next-fits : Fits w64 (i + 1)
+  next-fits = fits-below {n = 8} tt (omega arith)
+
+  less : n - (i + 1) < n - i
+  less = omega arith
+
 loop-holds : tie.Need-loop-holds Inv-loop μ-loop
 loop-holds c = begun _ _ _
 
 byte-requires : tie.Need-byte-requires Inv-loop μ-loop
-byte-requires c κs = search needs
+byte-requires c κs = tt
 
 enum-told : tie.Need-enum-told Inv-loop μ-loop
-enum-told c = search needs
+enum-told c = c .match .keys1
 
 returns : tie.Need-returns Inv-loop μ-loop
 returns c =
@@ -37,7 +55,7 @@ returns c =
     bad-byte (t .before .loop .inv) (t .loop-test .taken) (G t .pre) nowhere (sym (c .before .before .byte .ensures) ∙ c .enum-told .given .1)
 
 enum-told-2 : tie.Need-enum-told-2 Inv-loop μ-loop
-enum-told-2 c = search needs
+enum-told-2 c = c .match .keys2
 
 returns-2 : tie.Need-returns-2 Inv-loop μ-loop
 returns-2 c =
@@ -45,16 +63,16 @@ returns-2 c =
     bad-byte (t .before .loop .inv) (t .loop-test .taken) (G t .pre) denied (sym (c .before .before .byte .ensures) ∙ c .enum-told2 .given .1)
 
 enum-known-b : tie.Need-enum-known-b Inv-loop μ-loop
-enum-known-b c = search needs
+enum-known-b c = c .match .keys3
 
 cast-value : tie.Need-cast-value Inv-loop μ-loop
 cast-value c = search needs
 
 mul-value : tie.Need-mul-value Inv-loop μ-loop
-mul-value c = search needs
+mul-value c = let t = c .before .before .before .before in scaled-fits (t .loop-test .taken) (G t .pre)
 
 shl-value : tie.Need-shl-value Inv-loop μ-loop
-shl-value c = search needs
+shl-value c = let t = c .before .before .before .before in scaled-small (t .loop-test .taken) (G t .pre)
 
 add-value : tie.Need-add-value Inv-loop μ-loop
 add-value c =
@@ -62,13 +80,13 @@ add-value c =
     record { fits = in-word (t .before .loop .inv) (t .loop-test .taken) (G t .pre) (c .before .b .given .0 .0) (omega arith) }
 
 plus-requires : tie.Need-plus-requires Inv-loop μ-loop
-plus-requires c κs = search needs
+plus-requires c κs = tt
 
 add-i : tie.Need-add-i Inv-loop μ-loop
-add-i c = search needs
+add-i c = let t = c .before .before .before .before .before in next-fits (t .loop-test .taken) (G t .pre)
 
 loop-less : tie.Need-loop-less Inv-loop μ-loop
-loop-less c = search needs
+loop-less c = let t = c .before .before .before .before .before in less (t .loop-test .taken) (G t .pre)
 
 loop-again : tie.Need-loop-again Inv-loop μ-loop
 loop-again c =

@@ -1,15 +1,19 @@
 -- `fill` meets its contract. The invariant: the lanes so far hold what the definition has there (`Filled`).
-use Prim.Native.Nat.{ℕ, _+_, _-_, _*_, _≤_, _<_}
+use mathlib.Core.Path.{sym}
+use Prim.Native.Nat.{ℕ, _+_, _-_, _*_, _≤_, _<_, zero-le}
 use native.Mathlib.Omega.{arith}
-use borrow.Author.Needs.{needs}
+use native.Mathlib.Nat.{le-refl, le-trans, le-of-lt, le-of-eq, le-add-right}
 use denote.Ref.{now}
 use lib.ListN.{length}
+use mir.Facts.{fits-below}
+use mir.Syntax.{w64}
+use mir.Val.{Fits}
 use Rattle.ground.specs.declared.Size.{Size}
 use Rattle.ground.proofs.Fills.{Filled, unfilled, all-filled}
 use Rattle.ground.proofs.Sizes.{bytes-some}
 use Rattle.memory.specs.Areas.{areasOf}
 use Rattle.loads.specs.Outcomes.{answersIn, registerByte, registerOf}
-use Rattle.bench.proofs.Small.{whole, room}
+use Rattle.bench.proofs.Small.{whole, room, next, less, next-fits}
 use Rattle.bench.proofs.Digits.{lane-filled}
 use Rattle.bench.proofs.fills.fill.Statement.{statement}
 use Rattle.bench.proofs.fills.fill.Tie as tie
@@ -33,25 +37,26 @@ module _ (t : tie.In-loop Inv-loop μ-loop) where
   width = t .before .before .bytes .result
 
   fits : (t .before .loop .l * width + width ≤ length (now (G .args .dst))) × (t .before .loop .l < length (now (G .args .dst)))
-  fits = room (length (now (G .args .dst))) (t .before .loop .l) lane (t .before .before .bytes .ensures) (let h = t .loop-test .taken in omega arith)
+  fits = room (length (now (G .args .dst))) (t .before .loop .l) lane (t .before .before .bytes .ensures) (t .loop-test .taken)
+
+  small : {m : ℕ} → m ≤ t .before .loop .l * width + width → Fits w64 m
+  small h = fits-below {n = 256} tt (le-trans h (le-trans (fits .0) (G .pre .1 .0)))
 
 pub fill-spec : {M : Type 1} → statement M
 unfolding registerOf
 fill-spec =
     tie.close (tie.spec Inv-loop μ-loop (λ c κs. tt)
     (λ c. rw (c .bytes .ensures) (bytes-some (c .before .before .before .before .before .before .before .args .plan .lane)))
-    (λ c. (omega arith, unfilled _ _ _))
-    (λ c κs. (G c .pre .0, omega (arith, fits c)))
-    (λ c. record { fits = omega (arith, fits (c .before)) })
-    (λ c. record { fits = omega (arith, fits (c .before)) })
-    (λ c. search needs) (λ c. search needs)
-    (λ c. let s = c .before .before .loop .inv .1 .size in omega (arith, fits (c .before)))
+    (λ c. (zero-le, unfilled _ _ _))
+    (λ c κs. (G c .pre .0, le-trans (le-of-lt (fits c .1)) (G c .pre .1 .0)))
+    (λ c. small (c .before) (le-add-right _ _)) (λ c. small (c .before) (le-refl _)) (λ c. le-add-right _ _) (λ c. le-add-right _ _)
+    (λ c. le-trans (fits (c .before) .0) (le-of-eq (sym (c .before .before .loop .inv .1 .size))))
     (λ c κs. tt)
-    (λ c. record { fits = omega (arith, fits (c .before .before .before .before .before)) })
-    (λ c. omega arith)
+    (λ c. let t = c .before .before .before .before .before in next-fits (fits t .1) (G t .pre .1 .0))
+    (λ c. less (c .before .before .before .before .before .loop-test .taken))
     (λ c.
     let t = c .before .before .before .before .before in
-    (omega arith, lane-filled _ _ _ (t .before .before .bytes .ensures) (t .before .loop .inv .1) (fits t .0) _ (c .before .before .before .before .lane-value .ensures) _ (c .before .before .put .ensures)))
+    (next (t .loop-test .taken), lane-filled _ _ _ (t .before .before .bytes .ensures) (t .before .loop .inv .1) (fits t .0) _ (c .before .before .before .before .lane-value .ensures) _ (c .before .before .put .ensures)))
     (λ c. c .before .loop .inv .1 .size)
     (λ c.
     let g = c .before .before .before .before .before .before .before .before .before in

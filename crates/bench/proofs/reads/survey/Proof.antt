@@ -2,12 +2,13 @@
 use mathlib.Core.Path.{sym, ap, _∙_}
 use mathlib.Core.Logic.{⊎-elim}
 use Prim.Native.Nat.{_-_}
-use borrow.Author.Needs.{needs}
+use native.Mathlib.Nat.{le-trans, le-of-lt, lt-of-le-of-lt}
 use Rattle.memory.specs.Areas.{areasOf}
 use Rattle.memory.specs.Troubles.{nowhere, denied}
 use Rattle.loads.specs.Answers.{reportOf}
 use Rattle.loads.specs.Lanes.{wanted, asked}
 use Rattle.loads.specs.Outcomes.{answersIn, surveyOf}
+use Rattle.bench.proofs.Small.{less, next-fits}
 use Rattle.bench.proofs.Turns.{SoFar, begun, passed, counted, stopped, finished}
 use Rattle.bench.proofs.reads.survey.Statement.{statement}
 use Rattle.bench.proofs.reads.survey.Tie as tie
@@ -24,7 +25,9 @@ unfolding surveyOf asked
 survey-spec =
     tie.close (tie.spec Inv-loop μ-loop
     (λ c. begun _ _ _)
-    (λ c κs. search needs) (λ c κs. search needs) (λ c. c .match .keys1) (λ c κs. tt)
+    (λ c κs. let g = c .before .before .before .before .before .before .before .before in (g .pre, le-trans (le-of-lt (c .if1 .taken)) (g .pre .few)))
+    (λ c κs. le-trans (le-of-lt (c .before .before .if1 .taken)) (c .before .before .before .before .before .before .before .before .before .before .pre .few))
+    (λ c. c .match .keys1) (λ c κs. tt)
     (λ c.
     let t = c .before .before .before .before .before in
     ap reportOf (c .ended .ensures)
@@ -34,7 +37,9 @@ survey-spec =
     let t = c .before .before .before .before .before in
     ap reportOf (c .ended2 .ensures)
     ∙ stopped (t .before .before .before .before .loop .inv) (t .before .before .if1 .taken) (sym (t .before .asks .ensures) ∙ t .if2 .taken) denied _ (sym (c .before .before .before .before .element .ensures) ∙ c .before .before .a2 .given .1))
-    (λ c. c .match .keys3) (λ c. search needs) (λ c. search needs) (λ c. search needs)
+    (λ c. c .match .keys3)
+    (λ c. next-fits (lt-of-le-of-lt (c .before .before .before .before .before .before .before .loop .inv .few) (c .before .before .before .before .before .if1 .taken)) (c .before .before .before .before .before .before .before .before .before .before .before .before .before .pre .few))
+    (λ c. next-fits (c .before .before .if1 .taken) (c .before .before .before .before .before .before .before .before .before .before .pre .few)) (λ c. less (c .before .before .if1 .taken))
     (λ c.
     let s = c .before .before .before .before .loop .inv in
     let more = c .before .before .if1 .taken in
