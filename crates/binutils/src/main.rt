@@ -4,6 +4,9 @@ mod lines;
 mod printed;
 mod texts;
 
+use libc::STDERR_FILENO;
+use libc::STDIN_FILENO;
+use libc::STDOUT_FILENO;
 use lines::Line;
 use texts::Text;
 use texts::find;
@@ -104,13 +107,13 @@ fn agrees(decoded: Decoded, text: &[u8]) -> bool {
 
 // Writes a disagreement: the line, which has the word and binutils' text, and what the word is to us.
 fn disagreement(number: u64, line: &[u8], ours: Text) {
-    io::write_all(1, b"line ");
-    io::print_decimal(1, number);
-    io::write_all(1, b": ");
-    io::write_all(1, line);
-    io::write_all(1, b" | ours: ");
+    io::write_all(STDOUT_FILENO, b"line ");
+    io::print_decimal(STDOUT_FILENO, number);
+    io::write_all(STDOUT_FILENO, b": ");
+    io::write_all(STDOUT_FILENO, line);
+    io::write_all(STDOUT_FILENO, b" | ours: ");
     ours.write();
-    io::write_all(1, b"\n");
+    io::write_all(STDOUT_FILENO, b"\n");
 }
 
 // One more in a row, and in the row of all words, where there is one to count.
@@ -147,9 +150,9 @@ fn compared(run: Run, word: u32, line: &[u8]) -> Run {
 
 // Ends the run, with why in one line on standard error.
 fn refused(run: Run, why: &[u8]) -> Run {
-    io::write_all(2, b"binutils: line ");
-    io::print_decimal(2, run.line);
-    io::write_all(2, why);
+    io::write_all(STDERR_FILENO, b"binutils: line ");
+    io::print_decimal(STDERR_FILENO, run.line);
+    io::write_all(STDERR_FILENO, why);
     let mut end = run;
     end.open = false;
     end.sound = false;
@@ -176,7 +179,7 @@ fn taken(run: Run, bytes: &[u8]) -> Run {
 fn turn(run: Run) -> Run {
     let mut buf = [0u8; 128];
     let at = (run.at % 0x8000_0000_0000_0000) as i64;
-    let got = libc::pread(libc::STDIN_FILENO, &mut buf, at);
+    let got = libc::pread(STDIN_FILENO, &mut buf, at);
     if got < 0 {
         return refused(run, b" cannot be read: standard input must be a file\n");
     }
@@ -209,9 +212,9 @@ fn all() -> Run {
 
 // Writes the two counts of a row.
 fn counts(agree: u64, words: u64) {
-    io::print_decimal(1, agree);
-    io::write_all(1, b" of ");
-    io::print_decimal(1, words);
+    io::print_decimal(STDOUT_FILENO, agree);
+    io::write_all(STDOUT_FILENO, b" of ");
+    io::print_decimal(STDOUT_FILENO, words);
 }
 
 // Writes a form, with the next row's counts for each %.
@@ -221,7 +224,7 @@ fn report(form: &[u8], agree: [u64; 12], words: [u64; 12]) {
     while i < form.len() {
         let c = form[i];
         if c != b'%' {
-            io::write_all(1, &[c]);
+            io::write_all(STDOUT_FILENO, &[c]);
         } else if row < 12 {
             counts(agree[row], words[row]);
             row += 1;

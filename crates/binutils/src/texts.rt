@@ -1,5 +1,7 @@
 // Short texts, put together piece by piece, and what is found in longer ones.
 
+use libc::STDOUT_FILENO;
+
 // Up to 64 bytes, of which the first n are the text.
 pub struct Text {
     pub bytes: [u8; 64],
@@ -80,6 +82,6 @@ impl Text {
     // Writes the text to standard output.
     pub(crate) fn write(self) {
         let bytes = self.bytes;
-        io::write_all(1, part(&bytes, 0, self.n));
+        io::write_all(STDOUT_FILENO, part(&bytes, 0, self.n));
     }
 }

@@ -10,7 +10,8 @@ use lib.ListN.{length}
 use Rattle.ground.specs.Lists.{bytesAt}
 use Rattle.ground.proofs.Laws.{if-cases}
 use Rattle.cases.specs.Parts.{caseBytes}
-use Rattle.cases.specs.Heads.{magic, headOf, limited, openedOf, Fine}
+use Rattle.cases.specs.Heads.{magic, headOf, limited, openedOf}
+use Rattle.cases.specs.Inside.{Fine}
 use Rattle.cases.specs.Outcomes.{outcomeLength}
 use Rattle.cases.specs.declared.Case.{Case}
 use Rattle.cases.specs.declared.Refusal.{Refusal}

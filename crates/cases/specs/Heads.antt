@@ -1,6 +1,5 @@
 -- docs/CASES.md, "A case": the head, field by field, and "Bad input". All numbers are little-endian.
-use Prim.Native.Nat.{ℕ, _+_, _*_, _/_, _%_, _^_, _≤_}
-use mathlib.Core.Path.{_≡_}
+use Prim.Native.Nat.{ℕ, _+_, _*_, _/_, _%_, _^_}
 use mathlib.Core.Bool.{Bool, not}
 use mathlib.Core.List.{List, [], _∷_}
 use lib.Dec.{eqb, ltb}
@@ -64,8 +63,3 @@ openedOf s =
     ∷ (ltb 4 (bytesAt s 12 4) ⇒ Broken Level)
     ∷ [])
     (limited (headOf s))
-
--- what the functions below `answer` are given of a case that bytes open with: its length, and two bounds, so that no sum of theirs wraps
-abbrev pub Fine : Opened → Type 0
-Fine (Broken why) = Unit {0}
-Fine (Holds c n) = (n ≡ caseBytes c) × (c .z ≤ 65536) × (c .x ≤ 128)

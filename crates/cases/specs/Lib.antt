@@ -1,5 +1,6 @@
--- The byte format of docs/CASES.md: a case, an outcome, and what is answered.
+-- The byte format of docs/CASES.md: a case, an outcome, and what is answered; and what the contracts inside the crate name.
 pub mod Parts
 pub mod Heads
 pub mod Outcomes
 pub mod Answers
+pub mod Inside

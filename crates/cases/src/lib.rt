@@ -6,7 +6,8 @@ use loads::Settings;
 use memory::Address;
 use memory::Map;
 ghost use mathlib.Core.Path.{_≡_};
-ghost use Rattle.cases.specs.Heads.{headOf, limited, openedOf, Fine};
+ghost use Rattle.cases.specs.Heads.{headOf, limited, openedOf};
+ghost use Rattle.cases.specs.Inside.{Fine};
 ghost use Rattle.cases.specs.declared.Opened.the-variants.{Holds};
 ghost use Rattle.cases.specs.Answers.{After, onCase, AnswerPromise};
 
