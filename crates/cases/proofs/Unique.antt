@@ -6,7 +6,6 @@ use Rattle.ground.proofs.Laws.{only-one}
 use Rattle.cases.specs.Heads.{openedOf}
 use Rattle.cases.specs.Answers.{After, AnswerPromise}
 use Rattle.cases.specs.declared.Opened.{Opened}
-use Rattle.cases.specs.declared.Answered.{Answered}
 
 pub head-unique : (s : List ℕ) (a b : Opened) → a ≡ openedOf s → b ≡ openedOf s → a ≡ b
 head-unique s a b p q = only-one p q

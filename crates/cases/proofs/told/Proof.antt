@@ -1,7 +1,7 @@
 -- `told` meets its contract: each field is the number at its place.
 use mathlib.Core.Path.{_≡_}
 use mathlib.Core.List.{List}
-use Prim.Native.Nat.{ℕ, _/_, _%_, _^_}
+use Prim.Native.Nat.{ℕ, _/_, _%_}
 use lib.Dec.{eqb}
 use borrow.Author.Needs.{needs}
 use Rattle.ground.specs.Lists.{bytesAt}

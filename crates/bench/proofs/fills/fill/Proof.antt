@@ -1,7 +1,6 @@
 -- `fill` meets its contract. The invariant: the lanes so far hold what the definition has there (`Filled`).
 use mathlib.Core.Path.{sym}
 use Prim.Native.Nat.{ℕ, _+_, _-_, _*_, _≤_, _<_, zero-le}
-use native.Mathlib.Omega.{arith}
 use native.Mathlib.Nat.{le-refl, le-trans, le-of-lt, le-of-eq, le-add-right}
 use denote.Ref.{now}
 use lib.ListN.{length}

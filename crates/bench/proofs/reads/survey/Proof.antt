@@ -2,7 +2,8 @@
 use mathlib.Core.Path.{sym, ap, _∙_}
 use mathlib.Core.Logic.{⊎-elim}
 use Prim.Native.Nat.{_-_}
-use native.Mathlib.Nat.{le-trans, le-of-lt, lt-of-le-of-lt}
+use native.Mathlib.Nat.{le-trans, le-of-lt}
+use borrow.Author.Needs.{needs}
 use Rattle.memory.specs.Areas.{areasOf}
 use Rattle.memory.specs.Troubles.{nowhere, denied}
 use Rattle.loads.specs.Answers.{reportOf}
@@ -38,7 +39,7 @@ survey-spec =
     ap reportOf (c .ended2 .ensures)
     ∙ stopped (t .before .before .before .before .loop .inv) (t .before .before .if1 .taken) (sym (t .before .asks .ensures) ∙ t .if2 .taken) denied _ (sym (c .before .before .before .before .element .ensures) ∙ c .before .before .a2 .given .1))
     (λ c. c .match .keys3)
-    (λ c. next-fits (lt-of-le-of-lt (c .before .before .before .before .before .before .before .loop .inv .few) (c .before .before .before .before .before .if1 .taken)) (c .before .before .before .before .before .before .before .before .before .before .before .before .before .pre .few))
+    (λ c. search needs)
     (λ c. next-fits (c .before .before .if1 .taken) (c .before .before .before .before .before .before .before .before .before .before .pre .few)) (λ c. less (c .before .before .if1 .taken))
     (λ c.
     let s = c .before .before .before .before .loop .inv in

@@ -1,11 +1,11 @@
 -- `put_numbers` meets its contract. The invariant: the numbers so far are written (`Filled`).
 use mathlib.Core.Path.{_≡_, ap, _∙_}
 use mathlib.Core.List.{List}
-use Prim.Native.Nat.{ℕ, _+_, _-_, _*_, _/_, _%_, _^_, _≤_, _<_}
+use Prim.Native.Nat.{ℕ, _+_, _-_, _*_, _≤_}
 use native.Mathlib.Omega.{arith}
 use borrow.Author.Needs.{needs}
 use lib.Arith.{digits-div, digits-mod}
-use lib.ListN.{length, getD}
+use lib.ListN.{length}
 use Rattle.ground.specs.Lists.{listed}
 use Rattle.ground.proofs.Fills.{Filled, unfilled, digits-filled, all-filled}
 use Rattle.cases.specs.Outcomes.{eighth, eights}
