@@ -1,0 +1,2 @@
+-- What the contract of `kjolvast_step` is stated with.
+pub mod Hosts
