@@ -1,0 +1,54 @@
+"""A script's steps for another program. Numbers of 64 bits are strings in hexadecimal, since many readers of JSON keep 53 bits; a float
+that JSON has no number for is a string."""
+
+import json
+import math
+from typing import Any
+
+from desk.bench import Script
+from desk.telling import Lane, Told, as_float, digits, shows_floats
+
+
+def number(value: float) -> float | str:
+    return value if math.isfinite(value) else repr(value)
+
+
+def lane(cell: Lane, floats: bool) -> dict[str, Any]:
+    found: dict[str, Any] = {"before": f"0x{digits(cell.before)}", "after": f"0x{digits(cell.after)}"}
+    if floats:
+        found |= {"before_float": number(as_float(cell.before)), "after_float": number(as_float(cell.after))}
+    return found
+
+
+def change(before: int, after: int) -> dict[str, str]:
+    return {"before": hex(before), "after": hex(after)}
+
+
+def step(told: Told) -> dict[str, Any]:
+    outcome, shown = told.outcome, told.shown
+    found: dict[str, Any] = {
+        "word": f"{told.step.word:08x}",
+        "text": shown.text if shown else None,
+        "note": told.step.note,
+        "answer": outcome.answer,
+        "answer_name": told.answer[0],
+        "count": outcome.count,
+        "element": outcome.element,
+        "address": hex(outcome.address),
+        "changed": told.changed,
+        "pc": change(*told.pc),
+    }
+    if shown:
+        floats = shows_floats(shown)
+        cells = [lane(cell, floats) for cell in told.lanes]
+        found["destination"] = {"register": f"z{shown.target}", "lane_bits": shown.lane_bits, "lanes": cells}
+        found["base"] = {"register": shown.base} | change(*told.scalar(shown.base))
+    return found
+
+
+def document(script: Script, tolds: list[Told], other: str | None) -> str:
+    """The whole run; `stepped_by` names another program where it was not the proved one."""
+    bench = script.bench
+    settings = {"vl": bench.vl, "simd": bench.simd, "sve": bench.sve, "f64mm": bench.f64mm}
+    whole = {"file": script.path, "title": script.title, "stepped_by": other or "replay", "settings": settings, "steps": [step(told) for told in tolds]}
+    return json.dumps(whole, indent=2, ensure_ascii=False, allow_nan=False) + "\n"

@@ -1,0 +1,96 @@
+"""What one step told and changed, as plain values: the text and the JSON both show these, and add nothing."""
+
+import math
+import struct
+from dataclasses import dataclass
+
+from desk.bench import PC, SCALARS, VECTORS, Bench, Step
+from desk.cases import Outcome
+from desk.words import Shown, disassemble
+
+# document 01, "When the bench says no"
+ANSWERS = {
+    0: ("ran", ""),
+    1: ("set-up", "the bench as it is lent is not accepted"),
+    2: ("outside", "no load of the listed families"),
+    3: ("undefined", "a form that the page leaves undefined, or LD1RO without F64MM or with VL under 256"),
+    4: ("switched off", "SIMD is off, or SVE for an SVE load"),
+    5: ("stack", "SP is the base and no multiple of 16"),
+    6: ("no memory", "a byte of an active lane lies in neither area"),
+    7: ("denied", "a byte of an active lane lies in a page without the read right"),
+}
+NO_TEXT = "not a load of the bench"
+
+
+@dataclass
+class Lane:
+    number: int
+    before: bytes
+    after: bytes
+
+
+@dataclass
+class Told:
+    """One step. `shown` is what the word's text names, none for a word that has no text."""
+
+    step: Step
+    shown: Shown | None
+    outcome: Outcome
+    before: Bench
+
+    @property
+    def answer(self) -> tuple[str, str]:
+        return ANSWERS.get(self.outcome.answer, ("no answer of document 01", ""))
+
+    @property
+    def lanes(self) -> list[Lane]:
+        """The destination, lane by lane, lane 0 first."""
+        if self.shown is None:
+            return []
+        size = self.shown.lane_bits // 8
+        before = self.before.register(self.shown.target)
+        after = self.outcome.bench.register(self.shown.target)
+        return [Lane(n, before[n * size : (n + 1) * size], after[n * size : (n + 1) * size]) for n in range(len(after) // size)]
+
+    @property
+    def changed(self) -> list[str]:
+        """The registers and scalars that are not as they were, whatever the word says."""
+        after = self.outcome.bench
+        found = [f"z{n}" for n in range(VECTORS) if after.register(n) != self.before.register(n)]
+        return found + [name for name, old, new in zip(SCALARS, self.before.x, after.x) if old != new]
+
+    def scalar(self, name: str) -> tuple[int, int]:
+        """A scalar before and after."""
+        n = SCALARS.index(name)
+        return self.before.x[n], self.outcome.bench.x[n]
+
+    @property
+    def pc(self) -> tuple[int, int]:
+        return self.scalar(SCALARS[PC])
+
+
+def tell(step: Step, before: Bench, outcome: Outcome) -> Told:
+    return Told(step, disassemble(step.word), outcome, before)
+
+
+def digits(lane: bytes) -> str:
+    """A lane's bits as a number in hexadecimal, highest digit first."""
+    return lane[::-1].hex()
+
+
+def as_float(lane: bytes) -> float:
+    return struct.unpack("<f" if len(lane) == 4 else "<d", lane)[0]
+
+
+def float_text(lane: bytes) -> str:
+    """A single or a double by the fewest digits that give the same bits back."""
+    value = as_float(lane)
+    if len(lane) == 8 or not math.isfinite(value):
+        return repr(value)
+    texts = (f"{value:.{places}g}" for places in range(1, 10))
+    return next(repr(float(text)) for text in texts if struct.pack("<f", float(text)) == lane)
+
+
+def shows_floats(shown: Shown) -> bool:
+    """Whether the lanes may be floats: 32 or 64 bits, as wide as what was read into them."""
+    return shown.whole and shown.lane_bits in (32, 64)

@@ -1,0 +1,152 @@
+"""./kj as a person and as a script use it."""
+
+import json
+import os
+import pty
+import struct
+import subprocess
+import unittest
+
+from desk.telling import ANSWERS, digits, float_text
+from desk.tests.common import BY_SECOND, ROOT, Benches, kj, toml
+
+
+def on_a_terminal(words: list[str], env: dict[str, str]) -> str:
+    """What ./kj writes to a terminal."""
+    ours, theirs = pty.openpty()
+    with subprocess.Popen([str(ROOT / "kj"), *words], stdout=theirs, cwd=ROOT, env=os.environ | env) as running:
+        os.close(theirs)
+        said = b""
+        try:
+            while part := os.read(ours, 4096):
+                said += part
+        except OSError:
+            pass  # a terminal's other end ends so
+    os.close(ours)
+    assert running.returncode == 0
+    return said.decode()
+
+
+class Showing(Benches):
+    def test_an_answer_of_each_number(self) -> None:
+        """Document 01's table, a bench for each row that a file can lend."""
+        sp = "{ x0 = 0x1000, sp = 8 }"
+        rows = [
+            (0, {}),
+            (1, {"vl": "2176"}),
+            (1, {"ram": "{ start = 0x1001, length = 16 }"}),
+            (1, {"ram": "{ start = 0x1000, length = 65537 }"}),
+            (1, {"ram": "{ start = 0x1000, length = 16, rights = [1, 1] }"}),
+            (1, {"flash": "{ start = 0x1000, length = 1 }"}),
+            (2, {"words": "[0]"}),
+            (3, {"words": "[0xA5FF4000]"}),
+            (3, {"words": "[0xA5A02000]", "switches": "{ f64mm = false }"}),
+            (4, {"switches": "{ sve = false }"}),
+            (5, {"words": "[0xA5E0A3E0]", "scalars": sp}),
+            (6, {"scalars": "{ x0 = 0x1008 }"}),
+            (7, {"ram": "{ start = 0x1000, length = 4096, rights = ['none'] }"}),
+        ]
+        self.assertEqual({number for number, _ in rows}, set(ANSWERS))
+        for number, changed in rows:
+            ran = kj(*BY_SECOND, self.write(toml(**changed)))
+            self.assertEqual((ran.returncode, ran.stderr), (0, ""))
+            self.assertIn(f"answer {number}, {ANSWERS[number][0]}", ran.stdout)
+            self.assertEqual("no register and no scalar changed" in ran.stdout, number != 0, ran.stdout)
+
+    def test_a_fault_names_count_element_and_address(self) -> None:
+        ran = kj(*BY_SECOND, self.write(toml(scalars="{ x0 = 0x1008 }")))
+        self.assertIn("count 1, element 1, address 0x1010", ran.stdout)
+
+    def test_a_base_that_is_written_back(self) -> None:
+        """LD1R post-index by 8, at a place that the scope of work's reading of 4DC0C000 has."""
+        ran = kj(*BY_SECOND, self.write(toml(words="[0x4DDFCC00]", scalars="{ x0 = 0x1008, pc = 0xfffffffffffffffc }")))
+        self.assertIn("ld1r {v0.2d}, [x0], #8\n", ran.stdout)
+        self.assertIn("   base  x0 0x1008 -> 0x1010\n   pc    0xfffffffffffffffc -> 0x0\n", ran.stdout)
+        self.assertIn("z0.d  [0] 0000000000000000 0.0 -> 4000000000000000 2.0\n", ran.stdout)
+
+    def test_lanes_that_are_no_floats(self) -> None:
+        """LD1B into halves: eight lanes in a row, and no float beside them. The bytes of 1.0 are 00 six times, f0, 3f."""
+        ran = kj(*BY_SECOND, self.write(toml(words="[0xA420A000]", predicates="{ p0 = { size = 16, lanes = [0, 6, 7] } }")))
+        self.assertIn("z0.h  [0] 0000 0000 0000 0000 0000 0000 0000 0000 -> 0000 0000 0000 0000 0000 0000 00f0 003f\n", ran.stdout)
+
+    def test_each_step_goes_on_from_the_one_before(self) -> None:
+        words = "[0xA5E0A000, 0, 0xA5E0A000]"
+        ran = kj(*BY_SECOND, self.write(toml(words=words, scalars="{ x0 = 0x1000, pc = 0x40 }")))
+        self.assertEqual([line.strip() for line in ran.stdout.splitlines() if " pc " in line], ["pc    0x40 -> 0x44", "pc    0x44  as it was", "pc    0x44 -> 0x48"])
+
+    def test_floats_by_the_fewest_digits(self) -> None:
+        for code, value, text in [("<f", 0.1, "0.1"), ("<f", 359.9, "359.9"), ("<f", 2.0**-149, "1e-45"), ("<d", 0.1, "0.1"), ("<f", float("-inf"), "-inf"), ("<d", float("nan"), "nan")]:
+            self.assertEqual(float_text(struct.pack(code, value)), text)
+        for bits in range(0, 2**32, 65_537 * 41):
+            lane = bits.to_bytes(4, "little")
+            value = float(float_text(lane))
+            if value == value:
+                self.assertEqual(struct.pack("<f", value), lane, digits(lane))
+
+    def test_colours_on_a_terminal_and_nowhere_else(self) -> None:
+        bench = self.write(toml())
+        plain = kj(*BY_SECOND, bench).stdout
+        painted = on_a_terminal([*BY_SECOND, bench], {"TERM": "xterm", "NO_COLOR": ""})
+        self.assertNotIn("\x1b", plain)
+        self.assertIn("\x1b[32manswer 0, ran\x1b[0m", painted)
+        for env in ({"NO_COLOR": "1", "TERM": "xterm"}, {"NO_COLOR": "", "TERM": "dumb"}):
+            self.assertEqual(on_a_terminal([*BY_SECOND, bench], env).replace("\r\n", "\n"), plain)
+
+    def test_json(self) -> None:
+        ran = kj("--json", *BY_SECOND, self.write(toml(words="[0xA5E0A000, 0]", ram="{ start = 0x1000, bytes = { doubles = [1.5, inf] } }")))
+        whole = json.loads(ran.stdout, parse_constant=self.fail)
+        first, second = whole["steps"]
+        self.assertEqual((whole["settings"]["vl"], first["text"], first["answer"], first["count"]), (128, "ld1d {z0.d}, p0/z, [x0]", 0, 2))
+        lanes = first["destination"]["lanes"]
+        self.assertEqual([lane["after_float"] for lane in lanes], [1.5, "inf"])
+        self.assertEqual([lane["after"] for lane in lanes], ["0x3ff8000000000000", "0x7ff0000000000000"])
+        self.assertEqual((first["changed"], first["pc"]["after"]), (["z0", "pc"], "0x4"))
+        self.assertEqual((second["text"], second["answer_name"], second["changed"]), (None, "outside", []))
+
+    def test_help(self) -> None:
+        ran = kj("--help")
+        self.assertEqual((ran.returncode, ran.stderr), (0, ""))
+        for part in ("./kj demo/crossing-north.toml", "words =", "--json", "exit status"):
+            self.assertIn(part, ran.stdout)
+
+    def test_the_bench_of_the_help_runs(self) -> None:
+        text = kj("--help").stdout.split("have to be there.\n")[1].split("A piece is")[0]
+        ran = kj(*BY_SECOND, self.write(text))
+        self.assertEqual((ran.returncode, ran.stderr), (0, ""), ran.stdout)
+
+
+class BadUse(Benches):
+    def test_arguments(self) -> None:
+        for words in ([], ["--jason", "x"], ["a", "b"], ["--program"], ["--program", "", "demo/page-end.toml"], ["--program", "'", "demo/page-end.toml"]):
+            self.assert_one_line(kj(*words))
+
+    def test_programs_that_do_not_answer(self) -> None:
+        """What was shown before stands, and a JSON document is not begun."""
+        bench = self.write(toml())
+        self.write("#!/bin/sh\nhead -c 7 /dev/zero\n", "short")
+        self.write("#!/bin/sh\necho 'replay: case 0: bad' >&2\n", "refuses")
+        for name in ("short", "refuses"):
+            os.chmod(self.folder / name, 0o755)
+        for program, why in [("/not/there", "cannot be run: No such file"), ("false", "exit status 1"), (f"{self.folder}/short", "wrote 7 bytes"), (f"{self.folder}/refuses", "case 0: bad")]:
+            self.assert_one_line(kj("--json", "--program", program, bench), why)
+            ran = kj("--program", program, bench)
+            self.assertEqual((ran.returncode, ran.stderr.count("\n")), (2, 1))
+            self.assertIn("VL 128", ran.stdout)
+
+    def test_an_output_that_cannot_be_written(self) -> None:
+        bench = self.write(toml())
+        with open("/dev/full", "w") as full:
+            ran = subprocess.run([str(ROOT / "kj"), *BY_SECOND, bench], stdout=full, stderr=subprocess.PIPE, text=True)
+        self.assertEqual((ran.returncode, ran.stderr), (2, "kj: standard output cannot be written: No space left on device\n"))
+
+    def test_a_reader_that_goes_away(self) -> None:
+        bench = self.write(toml(words=str([0xA5E0A000] * 40)))
+        with subprocess.Popen([str(ROOT / "kj"), *BY_SECOND, bench], stdout=subprocess.PIPE, stderr=subprocess.PIPE) as running:
+            running.stdout.readline()
+            running.stdout.close()
+            self.assertEqual(running.stderr.read(), b"")
+        self.assertEqual(running.returncode, 0)
+
+
+if __name__ == "__main__":
+    unittest.main()

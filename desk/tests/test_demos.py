@@ -1,0 +1,74 @@
+"""The demos show what they are for, and README.md shows what they print."""
+
+import json
+import struct
+import subprocess
+import unittest
+
+from desk.program import built
+from desk.tests.common import BY_SECOND, ROOT, Benches, kj
+
+DEMOS = ("crossing-north", "page-end", "left-over")
+
+
+def bits(value: float) -> str:
+    return "0x" + struct.pack(">d", value).hex()
+
+
+class Demos(Benches):
+    def steps(self, name: str) -> list[dict]:
+        return json.loads(kj("--json", *BY_SECOND, f"demo/{name}.toml").stdout)["steps"]
+
+    def after(self, step: dict) -> list[str]:
+        return [lane["after"] for lane in step["destination"]["lanes"]]
+
+    def test_crossing_north(self) -> None:
+        """The inactive lane held 359.9 and is zero, and not 359.9, which with 0.1 would make 180."""
+        first, second = self.steps("crossing-north")
+        self.assertEqual(self.after(first), [bits(359.8), bits(359.9)])
+        self.assertEqual(second["destination"]["lanes"][1]["before"], bits(359.9))
+        self.assertEqual((self.after(second), second["count"]), ([bits(0.1), bits(0.0)], 1))
+        self.assertEqual((0.1 + 359.9) / 2, 180.0)
+
+    def test_page_end(self) -> None:
+        first, second = self.steps("page-end")
+        self.assertEqual([first[key] for key in ("answer", "count", "element", "address", "changed")], [7, 2, 2, "0x10001000", []])
+        self.assertEqual(self.after(first), [bits(value) for value in (11, 22, 33, 44)])
+        self.assertEqual((second["answer"], self.after(second)), (0, [bits(359.7), bits(359.8), bits(0), bits(0)]))
+
+    def test_left_over(self) -> None:
+        first, second = self.steps("left-over")
+        self.assertEqual(self.after(first), [bits(value) for value in (0.1, 0.2, 0.3, 0.4, 0, 0)])
+        block = struct.pack("<d", 0.1)
+        self.assertEqual(self.after(second), [f"0x{block[n]:02x}" if n in (0, 5) else "0x00" for n in range(48)])
+        self.assertEqual((first["count"], second["count"]), (4, 2))
+
+    def test_every_demo_is_listed_here(self) -> None:
+        self.assertEqual({path.stem for path in (ROOT / "demo").glob("*.toml")}, set(DEMOS))
+
+    def test_readme_shows_what_they_print(self) -> None:
+        """Each block of README.md that begins with '$ ./kj' is the output of that command."""
+        lines = (ROOT / "README.md").read_text().splitlines()
+        shown = 0
+        for at, line in enumerate(lines):
+            if not line.startswith("    $ ./kj "):
+                continue
+            block = []
+            for text in lines[at + 1 :]:
+                if text and not text.startswith("    "):
+                    break
+                block.append(text[4:])
+            said = kj(*BY_SECOND, *line.split()[2:]).stdout.splitlines()[1:]
+            self.assertEqual("\n".join(block).strip(), "\n".join(said).strip())
+            shown += 1
+        self.assertGreaterEqual(shown, 1)
+
+    @unittest.skipUnless(built(), "the proved program is not built")
+    def test_the_proved_program_steps_them_alike(self) -> None:
+        for name in DEMOS:
+            ours, theirs = (kj(*words, f"demo/{name}.toml") for words in ([], BY_SECOND))
+            self.assertEqual(ours.stdout, theirs.stdout.split("\n", 1)[1])
+
+
+if __name__ == "__main__":
+    unittest.main()

@@ -1,0 +1,109 @@
+"""A word as assembler text, spelt as binutils spells it, with what its text names. For showing alone: what a word does, and whether
+it is a load at all, is the proved program's answer. The gate holds every text to the 38,000 lines of binutils in crates/binutils/stdin."""
+
+from dataclasses import dataclass
+
+# The family rows of document 01; a letter stands for a bit of its field.
+ROWS = {
+    "ld1r": "0q001101 0 1 0 00000 110 0 ss nnnnn ttttt",
+    "ld1r post": "0q001101 1 1 0 mmmmm 110 0 ss nnnnn ttttt",
+    "ld1r element": "1000010 aa 1 iiiiii 1 bb ggg nnnnn ttttt",
+    "ld1 imm": "1010010 dddd 0 iiii 101 ggg nnnnn ttttt",
+    "ld1 reg": "1010010 dddd mmmmm 010 ggg nnnnn ttttt",
+    "ld1rq imm": "1010010 ss 00 0 iiii 001 ggg nnnnn ttttt",
+    "ld1rq reg": "1010010 ss 00 mmmmm 000 ggg nnnnn ttttt",
+    "ld1ro imm": "1010010 ss 01 0 iiii 001 ggg nnnnn ttttt",
+    "ld1ro reg": "1010010 ss 01 mmmmm 000 ggg nnnnn ttttt",
+}
+
+# dtype's sixteen rows: memory size, lane size, sign
+DTYPES = """b>b b>h b>s b>d sw>d h>h h>s h>d sh>d sh>s w>s w>d sb>d sb>s sb>h d>d""".split()
+
+LANE_BITS = {"b": 8, "h": 16, "s": 32, "d": 64}
+SIZES = "bhwd"
+
+
+@dataclass(frozen=True)
+class Shown:
+    """The text of a load, the register it names as destination with the bits of a lane, and the scalar it names as base. `whole`: the
+    lane is as wide as what was read into it, so that a lane of 32 or 64 bits may be a float."""
+
+    text: str
+    target: int
+    lane: str
+    base: str
+    whole: bool
+
+    @property
+    def lane_bits(self) -> int:
+        return LANE_BITS[self.lane]
+
+
+def fields(row: str, word: int) -> dict[str, int] | None:
+    """The fields of a word by their letters, or none where a fixed bit differs."""
+    found: dict[str, int] = {}
+    pattern = row.replace(" ", "")
+    for place, letter in enumerate(pattern):
+        bit = word >> (31 - place) & 1
+        if letter in "01":
+            if bit != int(letter):
+                return None
+        else:
+            found[letter] = found.get(letter, 0) << 1 | bit
+    return found
+
+
+def scalar(n: int) -> str:
+    return "sp" if n == 31 else f"x{n}"
+
+
+def signed(field: int) -> int:
+    """Four bits as a number from -8 to 7."""
+    return field - 16 if field > 7 else field
+
+
+def sizes(family: str, f: dict[str, int]) -> tuple[str, str]:
+    """The memory size as a mnemonic has it, and the letter of the lane size."""
+    if "d" in f or "a" in f:
+        memory, lane = DTYPES[f["d"] if "d" in f else f["a"] << 2 | f["b"]].split(">")
+        return memory, lane
+    return SIZES[f["s"]], "bhsd"[f["s"]]
+
+
+def address(family: str, f: dict[str, int], memory: str) -> str:
+    """What stands in the brackets of an SVE load; an offset of nothing is left out."""
+    log = SIZES.index(memory[-1])
+    base = scalar(f["n"])
+    if "m" in f:
+        return f"[{base}, x{f['m']}, lsl #{log}]" if log else f"[{base}, x{f['m']}]"
+    if family == "ld1 imm":
+        return f"[{base}, #{signed(f['i'])}, mul vl]" if f["i"] else f"[{base}]"
+    scale = {"ld1r element": 1 << log, "ld1rq imm": 16, "ld1ro imm": 32}[family]
+    offset = (f["i"] if family == "ld1r element" else signed(f["i"])) * scale
+    return f"[{base}, #{offset}]" if offset else f"[{base}]"
+
+
+def advanced(family: str, f: dict[str, int]) -> Shown:
+    """LD1R of source document 004, which names V registers."""
+    lane = "bhsd"[f["s"]]
+    count = (16 if f["q"] else 8) >> f["s"]
+    text = f"ld1r {{v{f['t']}.{count}{lane}}}, [{scalar(f['n'])}]"
+    if family == "ld1r post":
+        text += f", #{1 << f['s']}" if f["m"] == 31 else f", x{f['m']}"
+    return Shown(text, f["t"], lane, scalar(f["n"]), True)
+
+
+def disassemble(word: int) -> Shown | None:
+    """The load that a word is; none for a word of no row and for one that is undefined by itself."""
+    for family, row in ROWS.items():
+        f = fields(row, word)
+        if f is None:
+            continue
+        if "q" in f:
+            return advanced(family, f)
+        if f.get("m") == 31:
+            return None
+        memory, lane = sizes(family, f)
+        text = f"{family.split()[0]}{memory} {{z{f['t']}.{lane}}}, p{f['g']}/z, {address(family, f, memory)}"
+        return Shown(text, f["t"], lane, scalar(f["n"]), memory == ("w" if lane == "s" else lane))
+    return None
