@@ -9,11 +9,12 @@ from pathlib import Path
 
 from desk.tests.common import ROOT, SECOND, Benches, toml
 
-# what stands for the kit: it tells as rt does, and its program is the second interpreter
+# what stands for the kit: it tells as rt does, its program is the second interpreter, and one that is there is left alone
 RT = f"""#!/bin/sh
 echo "$@" >> calls
 echo 'rt: ground proved (5 s)'
 echo 'fn ground::x: proved'
+[ ! -e target/bin/replay ] || exit 0
 mkdir -p target/bin
 printf '#!/bin/sh\\nexec {SECOND} answer\\n' > target/bin/replay
 chmod +x target/bin/replay
@@ -39,11 +40,16 @@ class Building(Benches):
         path.write_text(text)
         path.chmod(0o755)
 
-    def kj(self, rt: str | None) -> subprocess.CompletedProcess:
+    def start(self, rt: str | None) -> subprocess.Popen:
         if rt is not None:
             self.script(self.folder / "bin" / "rt", rt)
         path = f"{self.folder / 'bin'}:{os.defpath}:{os.path.dirname(shutil.which('python3'))}"
-        return subprocess.run(["./kj", self.bench], capture_output=True, text=True, cwd=self.copy, env=os.environ | {"PATH": path}, timeout=60)
+        return subprocess.Popen(["./kj", self.bench], stdout=subprocess.PIPE, stderr=subprocess.PIPE, text=True, cwd=self.copy, env=os.environ | {"PATH": path})
+
+    def kj(self, rt: str | None) -> subprocess.CompletedProcess:
+        with self.start(rt) as running:
+            said, complained = running.communicate(timeout=60)
+        return subprocess.CompletedProcess(running.args, running.returncode, said, complained)
 
     def calls(self) -> int:
         return (self.copy / "calls").read_text().count("check replay\n")
@@ -58,6 +64,13 @@ class Building(Benches):
         self.assertIn("answer 0, ran", ran.stdout)
         self.assertEqual((self.kj(RT).stderr, self.calls()), ("", 1))
 
+    def test_a_second_kj_waits_for_the_build_of_the_first(self) -> None:
+        slow = RT.replace("[ !", "sleep 1\n[ !")
+        both = [self.start(slow), self.start(slow)]
+        said = [running.communicate(timeout=60)[0] for running in both]
+        self.assertEqual((said[0], self.calls()), (said[1], 1))
+        self.assertIn("answer 0, ran", said[0])
+
     def test_again_where_a_source_is_newer(self) -> None:
         self.kj(RT)
         ahead = time.time() + 5
@@ -71,6 +84,13 @@ class Building(Benches):
         ran = self.kj(BROKEN)
         self.assertEqual((ran.returncode, ran.stdout), (2, ""))
         self.assertEqual(ran.stderr.splitlines()[-1], "kj: the program could not be built; 'rt check replay' says: rt: ground NOT PROVED (exit 1, 3 s)")
+
+    def test_a_program_that_is_older_than_a_source_that_is_not_proved(self) -> None:
+        self.kj(RT)
+        ahead = time.time() + 5
+        os.utime(self.copy / "crates" / "ground" / "src" / "lib.rt", (ahead, ahead))
+        ran = self.kj(BROKEN)
+        self.assertEqual((ran.returncode, ran.stdout), (2, ""))
 
     def test_no_kit(self) -> None:
         ran = self.kj(None)

@@ -28,6 +28,14 @@ def on_a_terminal(words: list[str], env: dict[str, str]) -> str:
 
 
 class Showing(Benches):
+    def test_the_answers_have_the_names_of_document_01(self) -> None:
+        names = ["ran", "set-up", "outside", "undefined", "switched off", "stack", "no memory", "denied"]
+        self.assertEqual([ANSWERS[number][0] for number in range(8)], names)
+
+    def test_another_program_is_named_first(self) -> None:
+        first = kj(*BY_SECOND, self.write(toml())).stdout.splitlines()[0]
+        self.assertEqual(first, f"stepped by {BY_SECOND[1]}, not by the proved program")
+
     def test_an_answer_of_each_number(self) -> None:
         """Document 01's table, a bench for each row that a file can lend."""
         sp = "{ x0 = 0x1000, sp = 8 }"
@@ -68,6 +76,16 @@ class Showing(Benches):
         """LD1B into halves: eight lanes in a row, and no float beside them. The bytes of 1.0 are 00 six times, f0, 3f."""
         ran = kj(*BY_SECOND, self.write(toml(words="[0xA420A000]", predicates="{ p0 = { size = 16, lanes = [0, 6, 7] } }")))
         self.assertIn("z0.h  [0] 0000 0000 0000 0000 0000 0000 0000 0000 -> 0000 0000 0000 0000 0000 0000 00f0 003f\n", ran.stdout)
+
+    def test_lanes_stand_below_each_other(self) -> None:
+        ran = kj(*BY_SECOND, self.write(toml(vectors="{ z0 = { doubles = [0.1, -12345.678] } }")))
+        arrows = [line.index(" -> ") for line in ran.stdout.splitlines() if " -> " in line and "[" in line]
+        self.assertEqual((len(arrows), len(set(arrows))), (2, 1))
+
+    def test_a_value_that_was_extended_is_no_float(self) -> None:
+        """LD1W into doubles: the lane's 64 bits are no double."""
+        ran = kj(*BY_SECOND, self.write(toml(words="[0xA560A000]", ram="{ start = 0x1000, bytes = { singles = [1, 2] } }")))
+        self.assertIn("z0.d  [0] 0000000000000000 0000000000000000 -> 000000003f800000 0000000040000000\n", ran.stdout)
 
     def test_each_step_goes_on_from_the_one_before(self) -> None:
         words = "[0xA5E0A000, 0, 0xA5E0A000]"
