@@ -5,7 +5,7 @@ import json
 import math
 from typing import Any
 
-from desk.bench import Script
+from desk.bench import Area, Script
 from desk.telling import Lane, Told, as_float, digits, shows_floats
 
 
@@ -36,19 +36,28 @@ def step(told: Told) -> dict[str, Any]:
         "element": outcome.element,
         "address": hex(outcome.address),
         "changed": told.changed,
-        "pc": change(*told.pc),
+        "pc": change(*told.scalar("pc")),
     }
     if shown:
         floats = shows_floats(shown)
         cells = [lane(cell, floats) for cell in told.lanes]
         found["destination"] = {"register": f"z{shown.target}", "lane_bits": shown.lane_bits, "lanes": cells}
         found["base"] = {"register": shown.base} | change(*told.scalar(shown.base))
+        if shown.index:
+            found["index"] = {"register": shown.index} | change(*told.scalar(shown.index))
+        if shown.predicate is not None:
+            found["predicate"] = {"register": f"p{shown.predicate}", "bytes": told.before.predicate(shown.predicate).hex()}
     return found
+
+
+def area(lent: Area) -> dict[str, Any]:
+    return {"start": hex(lent.start), "length": len(lent.bytes), "rights": lent.rights.hex()}
 
 
 def document(script: Script, tolds: list[Told], other: str | None) -> str:
     """The whole run; `stepped_by` names another program where it was not the proved one."""
     bench = script.bench
     settings = {"vl": bench.vl, "simd": bench.simd, "sve": bench.sve, "f64mm": bench.f64mm}
-    whole = {"file": script.path, "title": script.title, "stepped_by": other or "replay", "settings": settings, "steps": [step(told) for told in tolds]}
-    return json.dumps(whole, indent=2, ensure_ascii=False, allow_nan=False) + "\n"
+    found = {"file": script.path, "title": script.title, "stepped_by": other or "replay", "settings": settings}
+    found |= {"flash": area(bench.flash), "ram": area(bench.ram), "steps": [step(told) for told in tolds]}
+    return json.dumps(found, indent=2, allow_nan=False) + "\n"

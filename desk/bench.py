@@ -8,8 +8,6 @@ PREDICATES = 16
 
 # the scalar file in its order: X0 to X30, SP, PC
 SCALARS = [f"x{n}" for n in range(31)] + ["sp", "pc"]
-SP = SCALARS.index("sp")
-PC = SCALARS.index("pc")
 
 
 @dataclass
@@ -48,6 +46,10 @@ class Bench:
         """The bytes of vector register n, lowest first."""
         return self.z[n * self.register_bytes : (n + 1) * self.register_bytes]
 
+    def predicate(self, n: int) -> bytes:
+        """The bytes of predicate register n, lowest first."""
+        return self.p[n * self.predicate_bytes : (n + 1) * self.predicate_bytes]
+
 
 @dataclass
 class Step:
@@ -72,4 +74,4 @@ class BadInput(Exception):
 
 
 class Trouble(Exception):
-    """The proved program could not be built or run; the text is one line."""
+    """The program could not be built or run, or what it answered not written; the text is one line."""

@@ -3,7 +3,7 @@
 import struct
 from dataclasses import dataclass, replace
 
-from desk.bench import Bench, Trouble
+from desk.bench import Bench
 
 MAGIC = b"KKJ1"
 # magic, word, flags, level; vl, two starts, seven lengths
@@ -48,7 +48,7 @@ def outcome(data: bytes, bench: Bench) -> Outcome:
     """Reads the outcome of a case that lent this bench: z and x come back as long as they went."""
     wanted = REPORT.size + len(bench.z) + 8 * len(bench.x)
     if len(data) != wanted:
-        raise Trouble(f"the program wrote {len(data)} bytes where an outcome has {wanted}")
+        raise ValueError(f"{len(data)} bytes came where an outcome has {wanted}")
     answer, count, element, address = REPORT.unpack_from(data)
     z_end = REPORT.size + len(bench.z)
     x = list(struct.unpack_from(f"<{len(bench.x)}Q", data, z_end))

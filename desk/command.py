@@ -4,20 +4,25 @@ import argparse
 import os
 import shlex
 import sys
-from typing import NoReturn
 
 from desk import as_json, program, showing
 from desk.bench import BadInput, Script, Trouble
+from desk.keys import one_line
 from desk.reading import read
-from desk.telling import Told, tell
+from desk.telling import tell
 
 HELP = """\
+usage: ./kj [--json] [--program COMMAND] FILE
+
 Steps Arm vector loads on a bench that is written down in FILE, by the proved program, and shows each answer and what changed.
 Try it:  ./kj demo/crossing-north.toml
-"""
 
-FORMAT = """\
-The file is TOML. Only vl and words have to be there.
+  --json             one JSON document instead of text
+  --program COMMAND  step by another program that reads cases and writes outcomes (docs/CASES.md), such as
+                     'second/target/release/second answer', in place of the proved one; the first line then says so
+  --help             this
+
+FILE is TOML. Only vl and words have to be there.
 
   title = "Crossing north"
   vl = 128                                        # vector length in bits
@@ -26,23 +31,24 @@ The file is TOML. Only vl and words have to be there.
   words = [0xA5E0A000, "A5E0A400", { word = 0xA5E0A800, note = "what it is for" }]
 
   [predicates]                                    # p0 to p15; others have no lane active
-  p0 = { size = 64, lanes = [0, 1] }              # active lanes of 64 bits; or lanes = "all"
-  p1 = { hex = "0101" }                           # the register's bytes, lowest first
+  p0 = { size = 64, lanes = [0, 1] }              # the active lanes, of 64 bits; or lanes = "all"
+  p1 = { hex = "0101" }                           # the register's bytes, lowest first, zeros above
 
   [vectors]                                       # z0 to z31 before the first step; others 0
-  z0 = { doubles = [359.8, 359.9] }
+  z0 = { doubles = [359.8, 359.9] }               # one piece, zeros above
 
   [ram]                                           # and [flash] alike
   start = 0x20000000
-  bytes = [{ doubles = [359.9, 0.1] }, { at = 4096, hex = "00ff" }]   # one piece or more
+  bytes = [{ doubles = [359.9, 0.1] }, { at = 4096, hex = "00 ff" }]    # one piece, or a list of them upward
   length = 8192                                   # zeros up to here
   rights = ["read", "none"]                       # a page of 4,096 bytes each; all readable unless said
 
-A piece is one of: hex, text, doubles, singles, file (a path beside FILE); with at = OFFSET it lies there.
-A number over 2^63 may be written as a string: "0xfffffffffffff000". A right may be a number: the rights byte itself.
+A piece is one of hex, text (as UTF-8), doubles, singles, or file (a path from FILE's folder); with at = OFFSET it lies there.
+A right may be a number: the rights byte itself. A number may be a string in hexadecimal, such as "0xfffffffffffff000".
 
 The words are stepped one after the other on what the step before left; after an answer other than 0 the bench is as it
-was, and the next word is stepped on that. The program is proved and built first if need be, which takes some minutes once.
+was, and the next word is stepped on that. What the bench does not accept, a vl of 100 say, is lent as it is written and
+answered with 1. The program is proved and built first if need be, which takes some minutes once.
 
 exit status: 0 all words were stepped, whatever the answers; 2 the file or the arguments cannot be used, or the program
 cannot be built or run, and one line on standard error says why.
@@ -50,17 +56,23 @@ cannot be built or run, and one line on standard error says why.
 
 
 class Arguments(argparse.ArgumentParser):
-    def error(self, message: str) -> NoReturn:
+    def error(self, message: str):
         """One line, as for every other bad input."""
         raise BadInput(f"{message}; ./kj --help tells how it is used")
 
 
-def arguments(words: list[str]) -> argparse.Namespace:
-    parser = Arguments(prog="kj", usage="./kj [--json] [--program COMMAND] FILE", description=HELP, epilog=FORMAT, formatter_class=argparse.RawDescriptionHelpFormatter)
-    parser.add_argument("file", metavar="FILE", help="the bench and its words, as below")
-    parser.add_argument("--json", action="store_true", help="print one JSON document instead of text")
-    parser.add_argument("--program", metavar="COMMAND", help="step by another program that reads cases and writes outcomes (docs/CASES.md) in place of the proved one, such as 'second/target/release/second answer'; the first line then says so")
-    return parser.parse_args(words)
+def arguments(argv: list[str]) -> argparse.Namespace:
+    parser = Arguments(prog="kj", add_help=False, allow_abbrev=False)
+    parser.add_argument("file", nargs="?")
+    parser.add_argument("-h", "--help", action="store_true")
+    parser.add_argument("--json", action="store_true")
+    parser.add_argument("--program")
+    asked, more = parser.parse_known_args(argv)
+    if more:
+        parser.error(f"no such option or second file: {more[0]}")
+    if asked.file is None and not asked.help:
+        parser.error("which file?")
+    return asked
 
 
 def colours() -> bool:
@@ -71,15 +83,15 @@ def colours() -> bool:
 def run(script: Script, command: list[str], as_document: bool, other: str | None) -> None:
     """Steps the words and shows each as it is answered; a JSON document is written whole or not at all."""
     paint = showing.Paint(colours())
-    if not as_document:
-        put((f"stepped by {other}, not by the proved program\n" if other else "") + showing.heading(script, paint))
+    above = (f"stepped by {one_line(other)}, not by the proved program\n" if other else "") + showing.heading(script, paint)
     bench, tolds = script.bench, []
     for number, step in enumerate(script.steps, 1):
         outcome = program.step(command, step.word, bench)
         tolds.append(tell(step, bench, outcome))
         bench = outcome.bench
         if not as_document:
-            put(showing.step(number, tolds[-1], paint))
+            put(above + showing.step(number, tolds[-1], paint))
+            above = ""
     if as_document:
         put(as_json.document(script, tolds, other))
 
@@ -97,26 +109,18 @@ def put(text: str) -> None:
         raise
 
 
-def main(words: list[str]) -> int:
-    # a file's name or note that the terminal has no letters for is no reason to stop
-    sys.stdout.reconfigure(errors="backslashreplace")
-    try:
-        asked = arguments(words)
-        script = read(asked.file)
-        command = other_program(asked.program) if asked.program is not None else [str(program.ROOT / "replay")]
-        if asked.program is None:
-            program.build()
-        run(script, command, asked.json, asked.program)
-    except (BadInput, Trouble) as error:
-        print(f"kj: {error}", file=sys.stderr)
-        return 2
-    except BrokenPipeError:
-        # who reads has seen enough
-        return 0
-    except KeyboardInterrupt:
-        print("kj: interrupted", file=sys.stderr)
-        return 130
-    return 0
+def obey(argv: list[str]) -> None:
+    asked = arguments(argv)
+    if asked.help:
+        put(HELP)
+        return
+    script = read(asked.file)
+    if asked.program is not None:
+        command = other_program(asked.program)
+    else:
+        command = [str(program.ROOT / "replay")]
+        program.build()
+    run(script, command, asked.json, asked.program)
 
 
 def other_program(text: str) -> list[str]:
@@ -127,3 +131,27 @@ def other_program(text: str) -> list[str]:
     if not command:
         raise BadInput("--program: no command is named")
     return command
+
+
+def open_streams() -> None:
+    """A complaint goes nowhere where standard error is closed; a letter that standard output does not have is written by its number."""
+    if sys.stderr is None:
+        sys.stderr = open(os.devnull, "w")
+    if sys.stdout is None:
+        raise Trouble("standard output is closed")
+    sys.stdout.reconfigure(errors="backslashreplace")
+
+
+def main(argv: list[str]) -> int:
+    try:
+        open_streams()
+        obey(argv)
+    except (BadInput, Trouble) as error:
+        print(f"kj: {one_line(str(error))}", file=sys.stderr)
+        return 2
+    except BrokenPipeError:
+        pass  # who reads has seen enough
+    except KeyboardInterrupt:
+        print("kj: interrupted", file=sys.stderr)
+        return 130
+    return 0

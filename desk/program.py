@@ -2,17 +2,22 @@
 
 import fcntl
 import os
+import resource
 import subprocess
 import sys
 import time
 from pathlib import Path
+from tempfile import TemporaryFile
 
 from desk.bench import Bench, Trouble
 from desk.cases import Outcome, case, outcome
 
 ROOT = Path(__file__).resolve().parent.parent
 PROGRAM = "replay"
+BINARY = ROOT / "target" / "bin" / PROGRAM
 SECONDS = 60
+# more than the longest outcome
+MOST_SAID = 2**20
 
 
 def crates_behind(name: str) -> set[str]:
@@ -32,17 +37,18 @@ def crates_behind(name: str) -> set[str]:
     return found
 
 
-def built() -> bool:
-    """Whether the program is there and no source of it is newer."""
-    program = ROOT / "target" / "bin" / PROGRAM
-    if not program.exists():
-        return False
-    made = program.stat().st_mtime
+def newest_source() -> float:
+    """When a source of the program was last written."""
     sources = [ROOT / "crates.txt"]
     for crate in crates_behind(PROGRAM):
         for folder in ("src", "specs", "proofs"):
             sources += (ROOT / "crates" / crate / folder).rglob("*")
-    return all(source.stat().st_mtime <= made for source in sources if source.is_file())
+    return max(source.stat().st_mtime for source in sources if source.is_file())
+
+
+def built() -> bool:
+    """Whether the program is there and no source of it is newer."""
+    return BINARY.exists() and newest_source() <= BINARY.stat().st_mtime
 
 
 def say(text: str) -> None:
@@ -51,46 +57,65 @@ def say(text: str) -> None:
 
 def build() -> None:
     """Proves and builds the program where it is not there or is older than its sources; a second kj waits for the first."""
-    if built():
-        return
-    with open(ROOT / "crates.txt", "rb") as lock:
-        fcntl.flock(lock, fcntl.LOCK_EX)
-        if not built():
-            prove()
+    try:
+        if built():
+            return
+        with open(ROOT / "crates.txt", "rb") as lock:
+            fcntl.flock(lock, fcntl.LOCK_EX)
+            if not built():
+                prove()
+    except OSError as error:
+        raise Trouble(f"the proved program cannot be built: {error.filename or ''}: {error.strerror}") from None
 
 
 def prove() -> None:
     """Runs `rt check`, telling each crate as it is proved, since this takes minutes."""
     begun = time.monotonic()
-    say(f"proving and building the program '{PROGRAM}' by 'rt check {PROGRAM}': once, some minutes")
+    say(f"proving and building the program '{PROGRAM}' by 'rt check {PROGRAM}': once, some 2 to 5 minutes")
     said = []
     try:
-        with subprocess.Popen(["rt", "check", PROGRAM], cwd=ROOT, stdout=subprocess.PIPE, stderr=subprocess.STDOUT, text=True, errors="replace") as running:
-            assert running.stdout is not None
-            for line in running.stdout:
-                said.append(line)
-                if line.startswith("rt: ") and " proved (" in line:
-                    say(f"  {line[4:].strip()}")
+        running = subprocess.Popen(["rt", "check", PROGRAM], cwd=ROOT, stdout=subprocess.PIPE, stderr=subprocess.STDOUT, text=True, errors="replace")
     except OSError as error:
         raise Trouble(f"the Rattle kit's command 'rt', which builds the proved program, cannot be run: {error.strerror}") from None
-    program = ROOT / "target" / "bin" / PROGRAM
-    if running.returncode != 0 or not program.exists():
+    with running:
+        assert running.stdout is not None
+        for line in running.stdout:
+            said.append(line)
+            if line.startswith("rt: ") and " proved (" in line:
+                say(f"  {line[4:].strip()}")
+    if running.returncode != 0 or not BINARY.exists():
         last = next((line.strip() for line in reversed(said) if line.startswith("rt:")), "it said nothing")
         raise Trouble(f"the program could not be built; 'rt check {PROGRAM}' says: {last}")
-    # rt leaves a program alone that has not changed; its sources are not newer from here on
-    os.utime(program)
+    # rt leaves a program alone that has not changed, so it is told here that no source is newer
+    now = max(time.time(), newest_source())
+    os.utime(BINARY, (now, now))
     say(f"built in {time.monotonic() - begun:.0f} s")
 
 
+def limited() -> None:
+    """Before a program runs: it may not write without end."""
+    resource.setrlimit(resource.RLIMIT_FSIZE, (MOST_SAID, MOST_SAID))
+
+
 def step(command: list[str], word: int, bench: Bench) -> Outcome:
-    """Has the program step one word. A run for each word, so that nothing waits on how the program reads and writes."""
-    try:
-        ran = subprocess.run(command, input=case(word, bench), capture_output=True, timeout=SECONDS)
-    except OSError as error:
-        raise Trouble(f"{command[0]}: cannot be run: {error.strerror}") from None
-    except subprocess.TimeoutExpired:
-        raise Trouble(f"{command[0]}: no outcome after {SECONDS} s") from None
-    if ran.returncode != 0 or ran.stderr:
-        why = ran.stderr.decode(errors="replace").strip().splitlines()
-        raise Trouble(f"{command[0]}: {why[-1] if why else f'exit status {ran.returncode}'}")
-    return outcome(ran.stdout, bench)
+    """Has the program step one word. A run for each word, from a file into files, so that nothing rests on when it reads and writes."""
+    name = command[0]
+    with TemporaryFile() as given, TemporaryFile() as said, TemporaryFile() as complained:
+        given.write(case(word, bench))
+        given.seek(0)
+        try:
+            status = subprocess.run(command, stdin=given, stdout=said, stderr=complained, timeout=SECONDS, preexec_fn=limited).returncode
+        except OSError as error:
+            raise Trouble(f"{name}: cannot be run: {error.strerror}") from None
+        except subprocess.TimeoutExpired:
+            raise Trouble(f"{name}: no outcome after {SECONDS} s") from None
+        said.seek(0)
+        complained.seek(0)
+        why = complained.read(1000).decode(errors="replace").strip().splitlines()
+        if status != 0 or why:
+            ended = f"ended by signal {-status}" if status < 0 else f"exit status {status}"
+            raise Trouble(f"{name}: {why[-1] if why else ended}")
+        try:
+            return outcome(said.read(), bench)
+        except ValueError as error:
+            raise Trouble(f"{name}: {error}") from None

@@ -1,33 +1,39 @@
 """A bench written in TOML, read: every key is known and every number in range, or one line says which is not. Whether the bench is
 accepted is not asked here: a start that is no multiple of 4,096 goes to the proved program, which answers 1."""
 
+import math
 import os
+import re
+import signal
 import stat
 import struct
 import tomllib
-from typing import Any
+from typing import Any, NoReturn
 
 from desk.bench import PAGE, PREDICATES, SCALARS, VECTORS, Area, BadInput, Bench, Script, Step
 from desk.cases import MOST_AREA_BYTES, MOST_PREDICATE_BYTES, MOST_RIGHTS, MOST_VECTOR_BYTES
-from desk.keys import Table, kind, one_line
+from desk.keys import Table, brief, kind, one_line
 
 MOST_VL = min(MOST_VECTOR_BYTES * 8 // VECTORS, MOST_PREDICATE_BYTES * 64 // PREDICATES)
 MOST_64 = 2**64 - 1
 # a file of text: many times what a bench with both areas in hexadecimal takes
 MOST_TEXT = 2**24
+SECONDS = 30
+ROOM = ", for which the program has room"
 SWITCHES = ("simd", "sve", "f64mm")
 CONTENTS = ("hex", "text", "doubles", "singles", "file")
 # rights by name; a number is the rights byte itself
 RIGHTS = {"read": 1, "none": 0}
+WORD = re.compile("(0[xX])?[0-9A-Fa-f]{8}")
 
 
 def read(path: str) -> Script:
     """The script that a file holds."""
     top = Table(path, "", load(path))
-    top.only("title", "vl", "switches", "scalars", "predicates", "vectors", "flash", "ram", "words")
-    bench = Bench(vl=top.number("vl", MOST_VL))
+    top.only(["title", "vl", "switches", "scalars", "predicates", "vectors", "flash", "ram", "words"])
+    bench = Bench(vl=top.number("vl", MOST_VL, why=ROOM))
     switches = top.table("switches")
-    switches.only(*SWITCHES)
+    switches.only(SWITCHES)
     for switch in SWITCHES:
         setattr(bench, switch, switches.of_type(switch, bool, True))
     bench.x = scalars(top.table("scalars"))
@@ -39,17 +45,41 @@ def read(path: str) -> Script:
 
 
 def load(path: str) -> dict[str, Any]:
+    """What a file says as TOML. A pipe whose writer never ends, or a text made to be slow, does not hold a person up for long."""
+
+    def too_long(*_: Any) -> NoReturn:
+        raise BadInput(f"{path}: not read after {SECONDS} s")
+
+    signal.signal(signal.SIGALRM, too_long)
+    signal.alarm(SECONDS)
+    try:
+        return parsed(path)
+    finally:
+        signal.alarm(0)
+
+
+def parsed(path: str) -> dict[str, Any]:
     try:
         with open(path, "rb") as file:
             text = file.read(MOST_TEXT + 1)
     except (OSError, ValueError) as error:
-        raise BadInput(one_line(f"{path}: cannot be read: {reason(error)}")) from None
+        raise BadInput(f"{path}: cannot be read: {reason(error)}") from None
     if len(text) > MOST_TEXT:
-        raise BadInput(one_line(f"{path}: over {MOST_TEXT} bytes; large contents go into a file of their own"))
+        raise BadInput(f"{path}: over {MOST_TEXT} bytes; large contents go into a file of their own")
     try:
-        return tomllib.loads(text.decode())
-    except (ValueError, RecursionError) as error:
-        raise BadInput(one_line(f"{path}: not TOML: {error}")) from None
+        return tomllib.loads(text.decode("utf-8-sig"), parse_float=finite)
+    except (tomllib.TOMLDecodeError, UnicodeDecodeError, OverflowError) as error:
+        raise BadInput(f"{path}: not TOML: {error}") from None
+    except (ValueError, RecursionError):
+        raise BadInput(f"{path}: not TOML: a number or a nesting without end") from None
+
+
+def finite(text: str) -> float:
+    """A number with a point. One that a double does not hold is not taken for an infinity, which has to be written so."""
+    value = float(text)
+    if math.isinf(value) and "inf" not in text:
+        raise OverflowError(f"{brief(text)} is over what a double holds")
+    return value
 
 
 def reason(error: Exception) -> str:
@@ -57,19 +87,15 @@ def reason(error: Exception) -> str:
     return getattr(error, "strerror", None) or str(error)
 
 
-def named(table: Table, letter: str, count: int) -> list[tuple[int, str]]:
+def registers(table: Table, letter: str, count: int) -> list[tuple[int, str]]:
     """The registers that a table names, such as z0 to z31, with their numbers."""
     names = [f"{letter}{n}" for n in range(count)]
-    for key in table.values:
-        if key not in names:
-            table.refuse(key, f"no such register; {names[0]} to {names[-1]} are")
+    table.only(names, f"{names[0]} to {names[-1]}")
     return [(names.index(key), key) for key in table.values]
 
 
 def scalars(table: Table) -> list[int]:
-    for key in table.values:
-        if key not in SCALARS:
-            table.refuse(key, "no such scalar; x0 to x30, sp and pc are")
+    table.only(SCALARS, "x0 to x30, sp and pc")
     return [table.number(name, MOST_64, 0) for name in SCALARS]
 
 
@@ -77,22 +103,19 @@ def predicates(table: Table, bench: Bench) -> bytes:
     """The predicate file; what is not written has no lane active."""
     size = bench.predicate_bytes
     file = bytearray(PREDICATES * size)
-    for n, key in named(table, "p", PREDICATES):
+    for n, key in registers(table, "p", PREDICATES):
         entry = table.table(key)
-        entry.only("size", "lanes", "hex")
-        if entry.has("hex"):
-            if entry.has("lanes") or entry.has("size"):
-                entry.refuse("hex", "either hex, or size with lanes")
-            register = padded(entry, "hex", contents(entry, "hex"), size)
-        else:
-            register = active_lanes(entry, size)
-        file[n * size : (n + 1) * size] = register
+        entry.only(["size", "lanes", "hex"])
+        if entry.has("hex") == (entry.has("size") or entry.has("lanes")):
+            entry.refuse("", "either size with lanes is wanted, or hex")
+        content = contents(entry, "hex") if entry.has("hex") else active_lanes(entry, size)
+        file[n * size : (n + 1) * size] = padded(entry, content, size)
     return bytes(file)
 
 
 def active_lanes(entry: Table, size: int) -> bytes:
     """A predicate by its active lanes: bit lane x size / 8 of each is 1."""
-    bits = entry.number("size", 64)
+    bits = entry.number("size", MOST_64)
     if bits not in (8, 16, 32, 64):
         entry.refuse("size", f"a lane has 8, 16, 32 or 64 bits, and not {bits}")
     count = size * 64 // bits
@@ -105,7 +128,7 @@ def active_lanes(entry: Table, size: int) -> bytes:
     for place, lane in enumerate(wanted):
         if count == 0:
             entry.refuse(f"lanes[{place}]", "there is no lane at this vl")
-        register |= 1 << entry.whole(f"lanes[{place}]", lane, count - 1) * bits // 8
+        register |= 1 << entry.checked(f"lanes[{place}]", lane, count - 1) * bits // 8
     return register.to_bytes(size, "little")
 
 
@@ -113,34 +136,33 @@ def vectors(table: Table, bench: Bench) -> bytes:
     """The vector file; what is not written is zero."""
     size = bench.register_bytes
     file = bytearray(VECTORS * size)
-    for n, key in named(table, "z", VECTORS):
+    for n, key in registers(table, "z", VECTORS):
         entry = table.table(key)
-        entry.only(*CONTENTS)
-        file[n * size : (n + 1) * size] = padded(entry, "", piece(entry), size)
+        entry.only(CONTENTS)
+        file[n * size : (n + 1) * size] = padded(entry, piece(entry), size)
     return bytes(file)
 
 
-def padded(entry: Table, key: str, content: bytes, size: int) -> bytes:
+def padded(entry: Table, content: bytes, size: int) -> bytes:
     """Contents of a register, with zeros above."""
     if len(content) > size:
-        place = entry.name(key) if key else entry.place
-        raise BadInput(one_line(f"{entry.file}: {place}: {len(content)} bytes, and a register has {size} at this vl"))
+        entry.refuse("", f"{len(content)} bytes, and a register has {size} at this vl")
     return content.ljust(size, b"\0")
 
 
 def area(table: Table) -> Area:
     """Flash or RAM: its pieces one behind the other, or each where `at` says, zeros between and up to `length`."""
-    table.only("start", "bytes", "length", "rights")
+    table.only(["start", "bytes", "length", "rights"])
     content = bytearray()
     for entry in table.tables("bytes"):
-        entry.only("at", *CONTENTS)
-        at = entry.number("at", MOST_AREA_BYTES, len(content))
+        entry.only(["at", *CONTENTS])
+        at = entry.number("at", MOST_AREA_BYTES, len(content), ROOM)
         if at < len(content):
             entry.refuse("at", f"the piece before it ends at {len(content)}")
         content += bytes(at - len(content)) + piece(entry)
         if len(content) > MOST_AREA_BYTES:
             table.refuse("bytes", f"{len(content)} bytes, and the program has room for {MOST_AREA_BYTES}")
-    length = table.number("length", MOST_AREA_BYTES, len(content))
+    length = table.number("length", MOST_AREA_BYTES, len(content), ROOM)
     if length < len(content):
         table.refuse("length", f"{length} is less than the {len(content)} bytes that are written")
     content += bytes(length - len(content))
@@ -156,11 +178,10 @@ def rights(table: Table, length: int) -> bytes:
         table.refuse("rights", f"{len(entries)} pages, and the program has room for {MOST_RIGHTS}")
     found = []
     for page, entry in enumerate(entries):
-        if isinstance(entry, str):
-            if entry not in RIGHTS:
-                table.refuse(f"rights[{page}]", f'"read", "none" or a number from 0 to 255 is wanted, and this is {entry!r}')
-            entry = RIGHTS[entry]
-        found.append(table.whole(f"rights[{page}]", entry, 255))
+        right = RIGHTS.get(entry) if isinstance(entry, str) else table.checked(f"rights[{page}]", entry, 255)
+        if right is None:
+            table.refuse(f"rights[{page}]", f'"read", "none" or a number from 0 to 255 is wanted, and this is {brief(entry)!r}')
+        found.append(right)
     return bytes(found)
 
 
@@ -168,7 +189,7 @@ def piece(entry: Table) -> bytes:
     """The bytes that one of hex, text, doubles, singles and file gives."""
     given = [key for key in CONTENTS if entry.has(key)]
     if len(given) != 1:
-        raise BadInput(one_line(f"{entry.file}: {entry.place}: one of {', '.join(CONTENTS)} is wanted, and there are {len(given)}"))
+        entry.refuse("", f"one of {', '.join(CONTENTS)} is wanted, and there are {len(given)}")
     return contents(entry, given[0])
 
 
@@ -197,7 +218,7 @@ def file_bytes(entry: Table, key: str, name: str) -> bytes:
     except (OSError, ValueError) as error:
         entry.refuse(key, f"{name}: cannot be read: {reason(error)}")
     if len(found) > MOST_AREA_BYTES:
-        entry.refuse(key, f"{name}: over {MOST_AREA_BYTES} bytes, and the program has no room for more")
+        entry.refuse(key, f"{name}: over {MOST_AREA_BYTES} bytes{ROOM}")
     return found
 
 
@@ -225,7 +246,7 @@ def words(top: Table) -> list[Step]:
         key = f"words[{place}]"
         if isinstance(entry, dict):
             table = Table(top.file, key, entry)
-            table.only("word", "note")
+            table.only(["word", "note"])
             steps.append(Step(word(table, "word", table.required("word")), one_line(table.of_type("note", str, ""))))
         else:
             steps.append(Step(word(top, key, entry)))
@@ -233,8 +254,9 @@ def words(top: Table) -> list[Step]:
 
 
 def word(table: Table, key: str, value: Any) -> int:
-    if isinstance(value, str) and not value.lower().startswith("0x"):
-        if len(value) != 8:
-            table.refuse(key, f"a word has eight hexadecimal digits, and this is {value!r}")
-        value = f"0x{value}"
-    return table.whole(key, value, 2**32 - 1)
+    """A word; in a string all eight digits of it, so that a lost one does not make another word."""
+    if isinstance(value, str):
+        if not WORD.fullmatch(value):
+            table.refuse(key, f"a word has eight hexadecimal digits, and this is {brief(value)!r}")
+        return int(value, 16)
+    return table.checked(key, value, 2**32 - 1)

@@ -1,6 +1,7 @@
 """A script's steps as text for a person: colours on a terminal, plain elsewhere."""
 
-from desk.bench import Bench, Script
+from desk.bench import Area, Script
+from desk.reading import RIGHTS
 from desk.telling import NO_TEXT, Told, digits, float_text, shows_floats
 from desk.words import Shown
 
@@ -21,18 +22,15 @@ def heading(script: Script, paint: Paint) -> str:
     bench = script.bench
     on = {True: "on", False: "off"}
     settings = f"VL {bench.vl}, SIMD {on[bench.simd]}, SVE {on[bench.sve]}, F64MM {'present' if bench.f64mm else 'absent'}"
-    lines = [paint("bold", script.title or script.path), settings]
-    lines += [f"{name:<5} {place(bench, name)}" for name in ("flash", "ram")]
+    lines = [paint("bold", script.title or script.path), settings, f"flash {extent(bench.flash)}", f"ram   {extent(bench.ram)}"]
     return "\n".join(lines) + "\n"
 
 
-def place(bench: Bench, name: str) -> str:
-    area = getattr(bench, name)
-    if not area.bytes:
-        return "empty"
-    unreadable = [str(page) for page, right in enumerate(area.rights) if not right & 1]
-    told = f"{area.start:#x}, {len(area.bytes)} bytes"
-    return told + (f"; no read right on page {', '.join(unreadable)}" if unreadable else "")
+def extent(area: Area) -> str:
+    """Where an area lies, and the right of each page, as they are lent."""
+    names = {byte: name for name, byte in RIGHTS.items()}
+    rights = " ".join(names.get(right, f"{right:#04x}") for right in area.rights)
+    return f"{area.start:#x}, {len(area.bytes)} bytes; rights by page: {rights or 'no page'}"
 
 
 def step(number: int, told: Told, paint: Paint) -> str:
@@ -43,11 +41,21 @@ def step(number: int, told: Told, paint: Paint) -> str:
         lines.append(paint("dim", f"   {told.step.note}"))
     lines.append(answer(told, paint))
     if shown:
-        lines += lanes(told, shown, paint)
-        lines.append(f"   base  {shown.base} {scalar(told, shown.base, paint)}")
+        lines += named(told, shown, paint)
     lines.append(f"   pc    {scalar(told, 'pc', paint)}")
     lines += others(told)
     return "\n".join(lines) + "\n"
+
+
+def named(told: Told, shown: Shown, paint: Paint) -> list[str]:
+    """The registers that the text names. Of the predicate its bytes: which lanes are active is not for kj to say."""
+    lines = lanes(told, shown, paint)
+    if shown.predicate is not None:
+        lines.append(f"   pred  p{shown.predicate} {told.before.predicate(shown.predicate).hex(' ')}")
+    lines.append(f"   base  {shown.base} {scalar(told, shown.base, paint)}")
+    if shown.index:
+        lines.append(f"   index {shown.index} {scalar(told, shown.index, paint)}")
+    return lines
 
 
 def answer(told: Told, paint: Paint) -> str:
@@ -61,7 +69,7 @@ def answer(told: Told, paint: Paint) -> str:
 def arrow(before: str, after: str, paint: Paint) -> str:
     """A value before and after; one that is the same says so."""
     if before.rstrip() == after:
-        return paint("dim", f"{before}  as it was")
+        return paint("dim", f"{before}  unchanged")
     return f"{paint('dim', before)} -> {paint('new', after)}"
 
 

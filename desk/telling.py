@@ -4,22 +4,22 @@ import math
 import struct
 from dataclasses import dataclass
 
-from desk.bench import PC, SCALARS, VECTORS, Bench, Step
+from desk.bench import SCALARS, VECTORS, Bench, Step
 from desk.cases import Outcome
 from desk.words import Shown, disassemble
 
 # document 01, "When the bench says no"
 ANSWERS = {
     0: ("ran", ""),
-    1: ("set-up", "the bench as it is lent is not accepted"),
-    2: ("outside", "no load of the listed families"),
-    3: ("undefined", "a form that the page leaves undefined, or LD1RO without F64MM or with VL under 256"),
-    4: ("switched off", "SIMD is off, or SVE for an SVE load"),
+    1: ("set-up", "VL, or an area's length, rights, start or end, is not allowed, or the areas share an address"),
+    2: ("outside", "no family row fits the word's fixed bits"),
+    3: ("undefined", "LD1R with L=0 or S=1, a scalar form with Rm = 31, or LD1RO without F64MM or with VL under 256"),
+    4: ("switched off", "LD1R with SIMD off, or any other with SVE off"),
     5: ("stack", "SP is the base and no multiple of 16"),
     6: ("no memory", "a byte of an active lane lies in neither area"),
     7: ("denied", "a byte of an active lane lies in a page without the read right"),
 }
-NO_TEXT = "not a load of the bench"
+NO_TEXT = "no assembler text"
 
 
 @dataclass
@@ -63,10 +63,6 @@ class Told:
         """A scalar before and after."""
         n = SCALARS.index(name)
         return self.before.x[n], self.outcome.bench.x[n]
-
-    @property
-    def pc(self) -> tuple[int, int]:
-        return self.scalar(SCALARS[PC])
 
 
 def tell(step: Step, before: Bench, outcome: Outcome) -> Told:

@@ -19,24 +19,28 @@ ROWS = {
 # dtype's sixteen rows: memory size, lane size, sign
 DTYPES = """b>b b>h b>s b>d sw>d h>h h>s h>d sh>d sh>s w>s w>d sb>d sb>s sb>h d>d""".split()
 
-LANE_BITS = {"b": 8, "h": 16, "s": 32, "d": 64}
+# a size's letter, as a lane and as a mnemonic has it
+LANES = "bhsd"
 SIZES = "bhwd"
 
 
 @dataclass(frozen=True)
 class Shown:
-    """The text of a load, the register it names as destination with the bits of a lane, and the scalar it names as base. `whole`: the
-    lane is as wide as what was read into it, so that a lane of 32 or 64 bits may be a float."""
+    """The text of a load, and the registers that it names: the destination with the size of its lanes, the governing predicate, the
+    base and the index, none where there is none. `whole`: the lane is as wide as what was read into it, so that a lane of 32 or 64
+    bits may be a float."""
 
     text: str
     target: int
     lane: str
+    predicate: int | None
     base: str
+    index: str | None
     whole: bool
 
     @property
     def lane_bits(self) -> int:
-        return LANE_BITS[self.lane]
+        return 8 << LANES.index(self.lane)
 
 
 def fields(row: str, word: int) -> dict[str, int] | None:
@@ -62,12 +66,12 @@ def signed(field: int) -> int:
     return field - 16 if field > 7 else field
 
 
-def sizes(family: str, f: dict[str, int]) -> tuple[str, str]:
+def sizes(f: dict[str, int]) -> tuple[str, str]:
     """The memory size as a mnemonic has it, and the letter of the lane size."""
     if "d" in f or "a" in f:
         memory, lane = DTYPES[f["d"] if "d" in f else f["a"] << 2 | f["b"]].split(">")
         return memory, lane
-    return SIZES[f["s"]], "bhsd"[f["s"]]
+    return SIZES[f["s"]], LANES[f["s"]]
 
 
 def address(family: str, f: dict[str, int], memory: str) -> str:
@@ -84,13 +88,23 @@ def address(family: str, f: dict[str, int], memory: str) -> str:
 
 
 def advanced(family: str, f: dict[str, int]) -> Shown:
-    """LD1R of source document 004, which names V registers."""
-    lane = "bhsd"[f["s"]]
+    """LD1R of source document 004, which names V registers and no predicate."""
+    lane = LANES[f["s"]]
     count = (16 if f["q"] else 8) >> f["s"]
-    text = f"ld1r {{v{f['t']}.{count}{lane}}}, [{scalar(f['n'])}]"
+    base = scalar(f["n"])
+    index = scalar(f["m"]) if f.get("m", 31) != 31 else None
+    text = f"ld1r {{v{f['t']}.{count}{lane}}}, [{base}]"
     if family == "ld1r post":
-        text += f", #{1 << f['s']}" if f["m"] == 31 else f", x{f['m']}"
-    return Shown(text, f["t"], lane, scalar(f["n"]), True)
+        text += f", {index}" if index else f", #{1 << f['s']}"
+    return Shown(text, f["t"], lane, None, base, index, True)
+
+
+def predicated(family: str, f: dict[str, int]) -> Shown:
+    """The SVE loads."""
+    memory, lane = sizes(f)
+    text = f"{family.split()[0]}{memory} {{z{f['t']}.{lane}}}, p{f['g']}/z, {address(family, f, memory)}"
+    index = scalar(f["m"]) if "m" in f else None
+    return Shown(text, f["t"], lane, f["g"], scalar(f["n"]), index, memory == SIZES[LANES.index(lane)])
 
 
 def disassemble(word: int) -> Shown | None:
@@ -101,9 +115,5 @@ def disassemble(word: int) -> Shown | None:
             continue
         if "q" in f:
             return advanced(family, f)
-        if f.get("m") == 31:
-            return None
-        memory, lane = sizes(family, f)
-        text = f"{family.split()[0]}{memory} {{z{f['t']}.{lane}}}, p{f['g']}/z, {address(family, f, memory)}"
-        return Shown(text, f["t"], lane, scalar(f["n"]), memory == ("w" if lane == "s" else lane))
+        return predicated(family, f) if f.get("m") != 31 else None
     return None

@@ -21,6 +21,10 @@ GOOD = {
 }
 
 
+if not SECOND.exists():
+    raise SystemExit("build the second interpreter first: cargo build --release --offline --manifest-path second/Cargo.toml")
+
+
 def toml(**changed: str) -> str:
     """The good bench with some keys written otherwise."""
     return "".join(f"{key} = {value}\n" for key, value in (GOOD | changed).items())
@@ -35,7 +39,6 @@ class Benches(unittest.TestCase):
     """A test with a folder of its own to write benches into."""
 
     def setUp(self) -> None:
-        self.assertTrue(SECOND.exists(), "build it first: cargo build --release --offline --manifest-path second/Cargo.toml")
         folder = tempfile.TemporaryDirectory()
         self.addCleanup(folder.cleanup)
         self.folder = Path(folder.name)

@@ -80,6 +80,17 @@ class Building(Benches):
         self.assertIn("proving", self.kj(RT).stderr)
         self.assertEqual((self.kj(RT).stderr, self.calls()), ("", 2))
 
+    def test_a_source_of_tomorrow_is_built_once(self) -> None:
+        tomorrow = time.time() + 86_400
+        os.utime(self.copy / "crates" / "ground" / "src" / "lib.rt", (tomorrow, tomorrow))
+        self.kj(RT)
+        self.assertEqual((self.kj(RT).stderr, self.calls()), ("", 1))
+
+    def test_no_list_of_crates(self) -> None:
+        (self.copy / "crates.txt").unlink()
+        self.kj(RT)
+        self.assert_one_line(self.kj(RT), "the proved program cannot be built: ", "crates.txt: No such file")
+
     def test_a_build_that_fails(self) -> None:
         ran = self.kj(BROKEN)
         self.assertEqual((ran.returncode, ran.stdout), (2, ""))

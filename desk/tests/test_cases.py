@@ -3,7 +3,7 @@
 import struct
 import unittest
 
-from desk.bench import Area, Bench, Trouble
+from desk.bench import Area, Bench
 from desk.cases import case, outcome
 
 BENCH = Bench(
@@ -47,7 +47,7 @@ class Cases(unittest.TestCase):
     def test_an_outcome_of_another_length_is_none(self) -> None:
         whole = 25 + len(BENCH.z) + 33 * 8
         for length in (0, 1, 24, 25, whole - 1, whole + 1):
-            with self.assertRaisesRegex(Trouble, f"wrote {length} bytes .* {whole}"):
+            with self.assertRaisesRegex(ValueError, f"^{length} bytes came .* {whole}$"):
                 outcome(bytes(length), BENCH)
 
 

@@ -5,6 +5,7 @@ import os
 import pty
 import struct
 import subprocess
+import sys
 import unittest
 
 from desk.telling import ANSWERS, digits, float_text
@@ -61,6 +62,17 @@ class Showing(Benches):
             self.assertIn(f"answer {number}, {ANSWERS[number][0]}", ran.stdout)
             self.assertEqual("no register and no scalar changed" in ran.stdout, number != 0, ran.stdout)
 
+    def test_what_is_lent_stands_above(self) -> None:
+        ram = "{ start = 0x1001, length = 8192, rights = ['read', 'none', 0x83] }"
+        ran = kj(*BY_SECOND, self.write(toml(ram=ram, switches="{ simd = false }")))
+        self.assertIn("VL 128, SIMD off, SVE on, F64MM present\nflash 0x0, 0 bytes; rights by page: no page\n", ran.stdout)
+        self.assertIn("ram   0x1001, 8192 bytes; rights by page: read none 0x83\n", ran.stdout)
+
+    def test_predicate_and_index_are_shown(self) -> None:
+        ran = kj(*BY_SECOND, self.write(toml(words="[0xA5E14800]", predicates="{ p2 = { hex = '0180' } }", scalars="{ x0 = 0x1000, x1 = 1 }")))
+        self.assertIn("ld1d {z0.d}, p2/z, [x0, x1, lsl #3]", ran.stdout)
+        self.assertIn("   pred  p2 01 80\n   base  x0 0x1000  unchanged\n   index x1 0x1  unchanged\n", ran.stdout)
+
     def test_a_fault_names_count_element_and_address(self) -> None:
         ran = kj(*BY_SECOND, self.write(toml(scalars="{ x0 = 0x1008 }")))
         self.assertIn("count 1, element 1, address 0x1010", ran.stdout)
@@ -90,7 +102,7 @@ class Showing(Benches):
     def test_each_step_goes_on_from_the_one_before(self) -> None:
         words = "[0xA5E0A000, 0, 0xA5E0A000]"
         ran = kj(*BY_SECOND, self.write(toml(words=words, scalars="{ x0 = 0x1000, pc = 0x40 }")))
-        self.assertEqual([line.strip() for line in ran.stdout.splitlines() if " pc " in line], ["pc    0x40 -> 0x44", "pc    0x44  as it was", "pc    0x44 -> 0x48"])
+        self.assertEqual([line.strip() for line in ran.stdout.splitlines() if " pc " in line], ["pc    0x40 -> 0x44", "pc    0x44  unchanged", "pc    0x44 -> 0x48"])
 
     def test_floats_by_the_fewest_digits(self) -> None:
         for code, value, text in [("<f", 0.1, "0.1"), ("<f", 359.9, "359.9"), ("<f", 2.0**-149, "1e-45"), ("<d", 0.1, "0.1"), ("<f", float("-inf"), "-inf"), ("<d", float("nan"), "nan")]:
@@ -120,6 +132,13 @@ class Showing(Benches):
         self.assertEqual([lane["after"] for lane in lanes], ["0x3ff8000000000000", "0x7ff0000000000000"])
         self.assertEqual((first["changed"], first["pc"]["after"]), (["z0", "pc"], "0x4"))
         self.assertEqual((second["text"], second["answer_name"], second["changed"]), (None, "outside", []))
+        self.assertEqual((first["predicate"]["bytes"], whole["ram"]), ("0101", {"start": "0x1000", "length": 16, "rights": "01"}))
+
+    def test_letters_that_standard_output_does_not_have(self) -> None:
+        bench = self.write(toml(title="'nørth → 0°'"))
+        ascii_only = {"PYTHONIOENCODING": "ascii"}
+        self.assertEqual(json.loads(kj("--json", *BY_SECOND, bench, env=ascii_only).stdout)["title"], "nørth → 0°")
+        self.assertIn("n\\xf8rth", kj(*BY_SECOND, bench, env=ascii_only).stdout)
 
     def test_help(self) -> None:
         ran = kj("--help")
@@ -135,21 +154,46 @@ class Showing(Benches):
 
 class BadUse(Benches):
     def test_arguments(self) -> None:
-        for words in ([], ["--jason", "x"], ["a", "b"], ["--program"], ["--program", "", "demo/page-end.toml"], ["--program", "'", "demo/page-end.toml"]):
-            self.assert_one_line(kj(*words))
+        demo = "demo/page-end.toml"
+        for argv, why in [
+            ([], "which file?"),
+            (["--jason", demo], "no such option or second file: --jason"),
+            (["--jso", demo], "no such option or second file: --jso"),
+            ([demo, "b\nc"], "no such option or second file: b?c"),
+            ([demo, "--program"], "--program: expected one argument"),
+            (["--program", "", demo], "--program: no command is named"),
+            (["--program", "'", demo], "--program: No closing quotation"),
+            (["--program", "/not/'th\nere'", demo], "/not/th?ere: cannot be run"),
+        ]:
+            self.assert_one_line(kj(*argv), why)
+
+    def test_closed_streams(self) -> None:
+        python = [sys.executable, str(ROOT / "kj")]
+        for argv, said in (([self.write(toml())], "kj: standard output is closed\n"), (["--help"], "kj: standard output is closed\n")):
+            ran = subprocess.run(["sh", "-c", 'exec "$@" >&-', "sh", *python, *argv], capture_output=True, text=True)
+            self.assertEqual((ran.returncode, ran.stderr), (2, said))
+        ran = subprocess.run(["sh", "-c", 'exec "$@" 2>&-', "sh", *python, "none.toml"], capture_output=True, text=True)
+        self.assertEqual((ran.returncode, ran.stdout), (2, ""))
 
     def test_programs_that_do_not_answer(self) -> None:
-        """What was shown before stands, and a JSON document is not begun."""
         bench = self.write(toml())
         self.write("#!/bin/sh\nhead -c 7 /dev/zero\n", "short")
         self.write("#!/bin/sh\necho 'replay: case 0: bad' >&2\n", "refuses")
         for name in ("short", "refuses"):
             os.chmod(self.folder / name, 0o755)
-        for program, why in [("/not/there", "cannot be run: No such file"), ("false", "exit status 1"), (f"{self.folder}/short", "wrote 7 bytes"), (f"{self.folder}/refuses", "case 0: bad")]:
+        for program, why in [("/not/there", "cannot be run: No such file"), ("false", "exit status 1"), (f"{self.folder}/short", "short: 7 bytes came where an outcome has 801"), ("yes", "yes: ended by signal"), (f"{self.folder}/refuses", "case 0: bad")]:
             self.assert_one_line(kj("--json", "--program", program, bench), why)
-            ran = kj("--program", program, bench)
-            self.assertEqual((ran.returncode, ran.stderr.count("\n")), (2, 1))
-            self.assertIn("VL 128", ran.stdout)
+            self.assert_one_line(kj("--program", program, bench), why)
+
+    def test_what_was_answered_before_stands(self) -> None:
+        """A program that answers once: the first step is shown, and a JSON document is not begun."""
+        self.write(f"#!/bin/sh\ncd {self.folder}\nmkdir once && exec {BY_SECOND[1]}\n", "fickle")
+        os.chmod(self.folder / "fickle", 0o755)
+        bench = self.write(toml(words="[0xA5E0A000, 0xA5E0A000]"))
+        ran = kj("--program", f"{self.folder}/fickle", bench)
+        self.assertEqual((ran.returncode, ran.stderr.count("\n"), ran.stdout.count("answer 0, ran")), (2, 1, 1))
+        os.rmdir(self.folder / "once")
+        self.assert_one_line(kj("--json", "--program", f"{self.folder}/fickle", bench), "fickle: ")
 
     def test_an_output_that_cannot_be_written(self) -> None:
         bench = self.write(toml())

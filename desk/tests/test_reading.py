@@ -1,8 +1,10 @@
 """What a file means, and what is said of one that cannot be used."""
 
+import os
 import struct
 import unittest
 
+from desk import reading
 from desk.bench import BadInput
 from desk.reading import read
 from desk.tests.common import Benches, kj, toml
@@ -13,23 +15,28 @@ BAD = [
     ({"vl": "true"}, "vl", "a whole number is wanted"),
     ({"vl": "1979-05-27"}, "vl", "a date or time"),
     ({"vl": "-128"}, "vl", "-128 is out of range"),
-    ({"vl": "16385"}, "vl", "out of range, 0 to 16384"),
+    ({"vl": "16385"}, "vl", "out of range, 0 to 16384, for which the program has room"),
     ({"vl": "0x" + "f" * 5000}, "vl", "out of range"),
     ({"lv": "128"}, "lv", "no such key"),
     ({"switches": "{ simd = 1 }"}, "switches.simd", "true or false is wanted"),
     ({"switches": "{ sme = true }"}, "switches.sme", "no such key"),
-    ({"scalars": "{ x31 = 0 }"}, "scalars.x31", "no such scalar"),
+    ({"scalars": "{ x31 = 0 }"}, "scalars.x31", "no such key; x0 to x30, sp and pc"),
     ({"scalars": "{ x0 = 0x1_0000_0000_0000_0000 }"}, "scalars.x0", "0x10000000000000000 is out of range"),
-    ({"scalars": '{ sp = "0xgg" }'}, "scalars.sp", "not a number in hexadecimal"),
+    ({"scalars": '{ sp = "0xgg" }'}, "scalars.sp", "has the form 0xff, and this is '0xgg'"),
+    ({"scalars": '{ sp = "10" }'}, "scalars.sp", "has the form 0xff"),
+    ({"scalars": '{ sp = "0x 1" }'}, "scalars.sp", "has the form 0xff"),
+    ({"scalars": '{ sp = "0x\uff11" }'}, "scalars.sp", "has the form 0xff"),
     ({"scalars": "7"}, "scalars", "a table is wanted"),
     ({"predicates": "{ p16 = { hex = '' } }"}, "predicates.p16", "p0 to p15"),
     ({"predicates": "{ p0 = { size = 12, lanes = [] } }"}, "predicates.p0.size", "8, 16, 32 or 64"),
+    ({"predicates": "{ p0 = {} }"}, "predicates.p0", "either size with lanes is wanted, or hex"),
+    ({"predicates": "{ p0 = { size = 128, lanes = [] } }"}, "predicates.p0.size", "8, 16, 32 or 64"),
     ({"predicates": "{ p0 = { size = 64, lanes = [2] } }"}, "predicates.p0.lanes[0]", "out of range, 0 to 1"),
     ({"predicates": "{ p0 = { size = 64, lanes = 'some' } }"}, "predicates.p0.lanes", '"all" is wanted'),
     ({"predicates": "{ p0 = { size = 64 } }"}, "predicates.p0.lanes", "is missing"),
     ({"predicates": "{ p0 = { lanes = [0] } }"}, "predicates.p0.size", "is missing"),
-    ({"predicates": "{ p0 = { hex = '00', lanes = [0] } }"}, "predicates.p0.hex", "either"),
-    ({"predicates": "{ p0 = { hex = '000000' } }"}, "predicates.p0.hex", "3 bytes, and a register has 2"),
+    ({"predicates": "{ p0 = { hex = '00', lanes = [0] } }"}, "predicates.p0", "either size with lanes is wanted, or hex"),
+    ({"predicates": "{ p0 = { hex = '000000' } }"}, "predicates.p0", "3 bytes, and a register has 2"),
     ({"vectors": "{ z32 = { hex = '' } }"}, "vectors.z32", "z0 to z31"),
     ({"vectors": "{ z0 = { doubles = [1, 2, 3] } }"}, "vectors.z0", "24 bytes, and a register has 16"),
     ({"vectors": "{ z0 = { hex = '0' } }"}, "vectors.z0.hex", "pairs of hexadecimal digits"),
@@ -53,7 +60,10 @@ BAD = [
     ({"words": "[]"}, "words", "one or more words"),
     ({"words": "[0x1_0000_0000]"}, "words[0]", "out of range"),
     ({"words": "['A5E0A00']"}, "words[0]", "eight hexadecimal digits"),
-    ({"words": "[0, 'A5E0A00g']"}, "words[1]", "not a number in hexadecimal"),
+    ({"words": "[0, 'A5E0A00g']"}, "words[1]", "eight hexadecimal digits"),
+    ({"words": "['A5E0A00 ']"}, "words[0]", "eight hexadecimal digits"),
+    ({"words": "['A5_0A000']"}, "words[0]", "eight hexadecimal digits"),
+    ({"words": "['0xA5E0A00']"}, "words[0]", "eight hexadecimal digits"),
     ({"words": "[{ word = 0, nota = '' }]"}, "words[0].nota", "no such key"),
     ({"words": "[{ note = '' }]"}, "words[0].word", "is missing"),
     ({"title": "7"}, "title", "a string is wanted"),
@@ -79,9 +89,23 @@ class BadFiles(Benches):
         self.assertFalse(left.exists())
 
     def test_what_is_no_toml(self) -> None:
-        for text in ("vl =", "vl = 1\nvl = 2", b"\xff\xfe", "vl = " + "[" * 5000, "vl = " + "9" * 5000, "a\rb"):
+        for text in ("vl =", "vl = 1\nvl = 2", b"\xff\xfe", "vl = " + "[" * 5000, "vl = " + "9" * 5000, "a\rb", toml(vl="1e999")):
             path = self.write(text)
             self.assert_one_line(kj(path), f"{path}: not TOML: ")
+
+    def test_the_reason_stands_however_long_the_path_and_the_key_are(self) -> None:
+        name = "n" * 250
+        path = self.write(toml(vl="-1"), name)
+        self.assert_one_line(kj(path), f"{path}: vl: -1 is out of range")
+        self.assert_one_line(kj(self.write(toml(**{name: "1"}))), f": {'n' * 40}..: no such key")
+
+    def test_a_pipe_that_nobody_writes_to_is_given_up(self) -> None:
+        path = str(self.folder / "pipe")
+        os.mkfifo(path)
+        self.addCleanup(setattr, reading, "SECONDS", reading.SECONDS)
+        reading.SECONDS = 1
+        with self.assertRaisesRegex(BadInput, "pipe: not read after 1 s"):
+            read(path)
 
     def test_files_that_cannot_be_read(self) -> None:
         self.assert_one_line(kj(str(self.folder / "none.toml")), "none.toml: cannot be read: No such file")
@@ -98,6 +122,9 @@ class Meaning(Benches):
         self.assertEqual((bench.simd, bench.sve, bench.f64mm), (True, True, True))
         self.assertEqual((bench.z, bench.p, bench.x), (bytes(32 * 48), bytes(16 * 6), [0] * 33))
         self.assertEqual((bench.flash.bytes, bench.flash.rights, bench.ram.start), (b"", b"", 0))
+
+    def test_a_mark_of_the_byte_order_is_passed_over(self) -> None:
+        self.assertEqual(read(self.write(b"\xef\xbb\xbf" + toml().encode())).bench.vl, 128)
 
     def test_a_lane_of_a_predicate_is_its_lowest_bit(self) -> None:
         """Document 01: lane e is active exactly if bit e x (lane size / 8) is 1."""
@@ -130,7 +157,7 @@ class Meaning(Benches):
         self.assertEqual(bench.z, bytes(32) + b"\0\0\x80\x3f" + bytes(12) + bytes(28 * 16) + b"sixteen bytes ..")
 
     def test_words(self) -> None:
-        steps = self.read(words="""[0xA5E0A000, 'a5e0A000', '0x1', { word = 'FFFFFFFF', note = "a\\nb" }]""").steps
+        steps = self.read(words="""[0xA5E0A000, 'a5e0A000', '0x00000001', { word = 'FFFFFFFF', note = "a\\nb" }]""").steps
         self.assertEqual([step.word for step in steps], [0xA5E0A000, 0xA5E0A000, 1, 0xFFFFFFFF])
         self.assertEqual([step.note for step in steps], ["", "", "", "a?b"])
 
