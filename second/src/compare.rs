@@ -194,7 +194,7 @@ impl Progress {
 
     fn at(&mut self, done: u64) {
         let pause = Duration::from_millis(if self.terminal { 300 } else { 10_000 });
-        if !done.is_multiple_of(64) || self.last.elapsed() < pause {
+        if done % 64 != 0 || self.last.elapsed() < pause {
             return;
         }
         self.last = Instant::now();
