@@ -7,7 +7,7 @@ use second::rng::Rng;
 
 pub const LENGTHS: [u64; 2] = [512, 2048];
 /// How many words each family has.
-const WORDS: usize = 256;
+pub const WORDS: usize = 256;
 /// The nine families, and last all of them mixed in one shuffled order.
 pub const SETS: usize = Family::ALL.len() + 1;
 

@@ -1,8 +1,8 @@
 //! The program behind `./bench-speed`: compares the proved step with an ordinary one.
 //!
-//! `check` compares the outcomes, `time` compares them and then measures. For somebody who counts
-//! instructions: `list` lists VL, set and one of the three, `rounds` makes N rounds with these, and
-//! `table` makes a table of the counts.
+//! `check` compares the outcomes, `time` takes the time. For somebody who counts instructions: `list`
+//! lists VL, set and one of the three, `rounds` makes N rounds with these, and `table` makes a table
+//! of the counts.
 
 mod input;
 mod table;
@@ -33,10 +33,10 @@ fn main() -> ExitCode {
     let arguments: Vec<&str> = arguments.iter().map(String::as_str).collect();
     let done = match arguments[..] {
         ["check"] => check(),
-        ["time"] => check().and_then(|()| time()),
+        ["time"] => time(),
         ["list"] => list(),
         ["rounds", vl, set, who, rounds] => make_rounds([vl, set, who, rounds]),
-        ["table", more] => Table::read(io::stdin().lock(), more).map(|table| table.print()),
+        ["table", rounds] => Table::read(io::stdin().lock(), rounds).map(|table| table.print()),
         _ => Err("check, time, list, rounds VL SET WHO N, or table N".to_string()),
     };
     match done {
@@ -106,6 +106,7 @@ fn difference<T: PartialEq + LowerHex>(what: &str, a: &[T], b: &[T], who: Who) -
 }
 
 fn time() -> Result<(), String> {
+    println!("measured: time, median of {BLOCKS} blocks of some 10 ms each, all three in turns");
     let mut table = Table::new("ns per step");
     for vl in LENGTHS {
         let mut bench = bench(vl);

@@ -2,7 +2,7 @@
 
 use std::io::BufRead;
 
-use crate::input::{bench, name, steps, LENGTHS, SETS};
+use crate::input::{bench, name, steps, LENGTHS, SETS, WORDS};
 use crate::who::Who;
 
 pub struct Table {
@@ -22,18 +22,17 @@ impl Table {
         self.rows.push((vl, name, numbers));
     }
 
-    /// Lines `fewer more`: the instructions that two runs of `rounds` executed, for each VL, set and
-    /// one of the three in turn. The second made `more` rounds more than the first, so that the
-    /// set-up falls out of the difference.
-    pub fn read(input: impl BufRead, more: &str) -> Result<Table, String> {
-        let more: f64 = more.parse().map_err(|error| format!("{more}: {error}"))?;
+    /// Lines of two counts, for each VL, set and one of the three as `list` has them: the instructions
+    /// executed without any round, which is the set-up, and with so many rounds.
+    pub fn read(input: impl BufRead, rounds: &str) -> Result<Table, String> {
+        let rounds: f64 = (rounds.parse()).map_err(|error| format!("{rounds}: {error}"))?;
         let mut lines = input.lines();
         let mut difference = || -> Result<f64, String> {
             let line = lines.next().ok_or("too few counts")?;
             let line = line.map_err(|error| error.to_string())?;
             let counts = line.split_whitespace().map(str::parse::<u64>);
             match counts.collect::<Result<Vec<u64>, _>>().as_deref() {
-                Ok([fewer, more]) if fewer < more => Ok((more - fewer) as f64),
+                Ok([none, all]) if none < all => Ok((all - none) as f64),
                 _ => Err(format!("no two counts: {line:?}")),
             }
         };
@@ -41,7 +40,7 @@ impl Table {
         for vl in LENGTHS {
             let bench = bench(vl);
             for set in 0..SETS {
-                let made = more * steps(&bench, set).len() as f64;
+                let made = rounds * steps(&bench, set).len() as f64;
                 let mut numbers = [0.0; 3];
                 for number in &mut numbers {
                     *number = difference()? / made;
@@ -54,7 +53,8 @@ impl Table {
 
     pub fn print(&self) {
         println!(
-            "\n{}; ratio = plain / proved: 1.00 is as quick as the plain one, more is quicker",
+            "input: {WORDS} words of each family, all of which run, and all mixed; buffers warm\n\n\
+             {}; ratio = plain / proved: 1.00 is as quick as the plain one, more is quicker",
             self.unit
         );
         let [proved, plain, pages] = Who::ALL.map(Who::name);
