@@ -10,7 +10,7 @@ mod who;
 
 use std::env;
 use std::fmt::LowerHex;
-use std::io;
+use std::io::{self, Write};
 use std::process::ExitCode;
 use std::time::Instant;
 
@@ -36,10 +36,14 @@ fn main() -> ExitCode {
         ["time"] => time(),
         ["list"] => list(),
         ["rounds", vl, set, who, rounds] => make_rounds([vl, set, who, rounds]),
-        ["table", rounds] => Table::read(io::stdin().lock(), rounds).map(|table| table.print()),
+        ["table", rounds] => Table::read(io::stdin().lock(), rounds).map(|table| table.text()),
         _ => Err("check, time, list, rounds VL SET WHO N, or table N".to_string()),
     };
-    match done {
+    let said = done.and_then(|text| {
+        let said = io::stdout().write_all(text.as_bytes());
+        said.map_err(|error| format!("cannot write: {error}"))
+    });
+    match said {
         Ok(()) => ExitCode::SUCCESS,
         Err(line) => {
             eprintln!("bench-speed: {line}");
@@ -49,7 +53,7 @@ fn main() -> ExitCode {
 }
 
 /// Every set at every length, step by step: report, whole z and whole x are the same for all three.
-fn check() -> Result<(), String> {
+fn check() -> Result<String, String> {
     let mut compared = 0;
     for vl in LENGTHS {
         for set in 0..SETS {
@@ -72,11 +76,10 @@ fn check() -> Result<(), String> {
         let answer = same(case.word, &mut Who::ALL.map(|_| case.bench.clone()))?;
         answers[usize::from(answer & 7)] += 1;
     }
-    println!(
+    Ok(format!(
         "the same outcome (report, whole z, whole x) of proved, plain and pages: {compared} steps of \
-         the benchmark, all of which ran, and {CASES} generated cases with answers 0 to 7 {answers:?}"
-    );
-    Ok(())
+         the benchmark, all of which ran, and {CASES} generated cases with answers 0 to 7 {answers:?}\n"
+    ))
 }
 
 /// The answer that all three agree upon.
@@ -105,8 +108,7 @@ fn difference<T: PartialEq + LowerHex>(what: &str, a: &[T], b: &[T], who: Who) -
     Some(format!("{what} {at}: proved {a:#x}, {} {b:#x}", who.name()))
 }
 
-fn time() -> Result<(), String> {
-    println!("measured: time, median of {BLOCKS} blocks of some 10 ms each, all three in turns");
+fn time() -> Result<String, String> {
     let mut table = Table::new("ns per step");
     for vl in LENGTHS {
         let mut bench = bench(vl);
@@ -115,8 +117,10 @@ fn time() -> Result<(), String> {
             table.add(vl, name(set), medians(&steps, &mut bench));
         }
     }
-    table.print();
-    Ok(())
+    let text = table.text();
+    Ok(format!(
+        "measured: time, median of {BLOCKS} blocks of some 10 ms each, all three in turns\n{text}"
+    ))
 }
 
 /// Nanoseconds per step of each of the three: the median of blocks in turns.
@@ -148,18 +152,19 @@ fn medians(steps: &[Step], bench: &mut Bench) -> [f64; 3] {
     })
 }
 
-fn list() -> Result<(), String> {
+fn list() -> Result<String, String> {
+    let mut text = String::new();
     for vl in LENGTHS {
         for set in 0..SETS {
             for who in Who::ALL {
-                println!("{vl} {set} {}", who.name());
+                text += &format!("{vl} {set} {}\n", who.name());
             }
         }
     }
-    Ok(())
+    Ok(text)
 }
 
-fn make_rounds([vl, set, who, rounds]: [&str; 4]) -> Result<(), String> {
+fn make_rounds([vl, set, who, rounds]: [&str; 4]) -> Result<String, String> {
     let number = |text: &str| {
         text.parse::<u64>()
             .map_err(|error| format!("{text}: {error}"))
@@ -169,5 +174,5 @@ fn make_rounds([vl, set, who, rounds]: [&str; 4]) -> Result<(), String> {
     let who = Who::ALL.into_iter().find(|known| known.name() == who);
     who.ok_or("no such one")?
         .rounds(number(rounds)?, &steps, &mut bench);
-    Ok(())
+    Ok(String::new())
 }

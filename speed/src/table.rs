@@ -51,20 +51,20 @@ impl Table {
         Ok(table)
     }
 
-    pub fn print(&self) {
-        println!(
-            "input: {WORDS} words of each family, all of which run, and all mixed; buffers warm\n\n\
-             {}; ratio = plain / proved: 1.00 is as quick as the plain one, more is quicker",
-            self.unit
-        );
+    pub fn text(&self) -> String {
         let [proved, plain, pages] = Who::ALL.map(Who::name);
-        println!(
-            "{:<16} {:>6} {proved:>9} {plain:>9} {:>7} {pages:>9}",
-            "", "VL", "ratio"
+        let mut text = format!(
+            "input: {WORDS} words of each family, all of which run, and all mixed; buffers warm\n\n\
+             {}; ratio = plain / proved: 1.00 is as quick as the plain one, more is quicker\n\
+             {:<16} {:>6} {proved:>9} {plain:>9} {:>7} {pages:>9}\n",
+            self.unit, "", "VL", "ratio"
         );
         for (vl, name, [proved, plain, pages]) in &self.rows {
             let ratio = plain / proved;
-            println!("{name:<16} {vl:>6} {proved:>9.1} {plain:>9.1} {ratio:>7.2} {pages:>9.1}");
+            text += &format!(
+                "{name:<16} {vl:>6} {proved:>9.1} {plain:>9.1} {ratio:>7.2} {pages:>9.1}\n"
+            );
         }
+        text
     }
 }
