@@ -2,8 +2,7 @@
 
 use std::io::{self, BufReader, BufWriter, Read, Write};
 
-use crate::cases::{BadInput, Case};
-use crate::rules::Right;
+use crate::cases::{BadInput, Case, Step};
 
 /// Why the run ended early.
 pub enum Ended {
@@ -17,8 +16,8 @@ impl From<io::Error> for Ended {
     }
 }
 
-/// Answers case after case. What was answered before a bad case stands.
-pub fn answer(input: impl Read, output: impl Write) -> Result<u64, Ended> {
+/// Answers case after case by a step. What was answered before a bad case stands.
+pub fn answer(input: impl Read, output: impl Write, step: Step) -> Result<u64, Ended> {
     let mut input = BufReader::with_capacity(1 << 18, input);
     let mut output = BufWriter::with_capacity(1 << 16, output);
     let mut bytes = Vec::new();
@@ -31,7 +30,7 @@ pub fn answer(input: impl Read, output: impl Write) -> Result<u64, Ended> {
         match Case::read(&mut input) {
             Ok(Some(case)) => {
                 bytes.clear();
-                case.into_outcome(&Right).write(&mut bytes);
+                case.into_outcome_by(step).write(&mut bytes);
                 output.write_all(&bytes)?;
                 number += 1;
             }

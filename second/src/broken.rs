@@ -8,6 +8,7 @@ use std::thread;
 use crate::answer::{answer, Ended};
 use crate::cases::Case;
 use crate::generate;
+use crate::loads::right_step;
 
 /// A stream, and what is wrong with it.
 pub struct Broken {
@@ -120,7 +121,7 @@ fn with_length(at: usize, length: u64) -> Vec<u8> {
 /// the stream is broken.
 pub fn hold(program: &str, broken: &Broken) -> Result<(), String> {
     let mut own = Vec::new();
-    let ended = answer(broken.bytes.as_slice(), &mut own);
+    let ended = answer(broken.bytes.as_slice(), &mut own, right_step);
     let lines = usize::from(matches!(ended, Err(Ended::Case { .. })));
     let (out, errors) = run(program, broken.bytes.clone())?;
     let what = &broken.what;

@@ -13,6 +13,9 @@ pub const LAST_LEVEL: u32 = 4;
 /// The fields before z: magic, word, flags, level, vl, two starts, seven lengths.
 const HEADER: usize = 4 * 4 + 8 * 10;
 
+/// The shape that all steps have in common: `loads::right_step`, `plain::step`.
+pub type Step = fn(u32, &mut Bench) -> Report;
+
 /// One step that goes in.
 #[derive(Clone, Debug, PartialEq, Eq)]
 pub struct Case {
@@ -85,9 +88,18 @@ impl Case {
         self.outcome_under(&Right)
     }
 
+    /// The outcome by a step of this shape.
+    pub fn outcome_by(&self, step: Step) -> Outcome {
+        self.clone().into_outcome_by(step)
+    }
+
     /// Executes the case and gives up what does not come out.
-    pub fn into_outcome<R: Rules + ?Sized>(mut self, rules: &R) -> Outcome {
-        let report = step(rules, self.word, &mut self.bench);
+    pub fn into_outcome<R: Rules + ?Sized>(self, rules: &R) -> Outcome {
+        self.into_outcome_by(|word, bench| step(rules, word, bench))
+    }
+
+    pub fn into_outcome_by(mut self, step: impl FnOnce(u32, &mut Bench) -> Report) -> Outcome {
+        let report = step(self.word, &mut self.bench);
         Outcome {
             report,
             z: self.bench.z,

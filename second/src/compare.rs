@@ -1,12 +1,12 @@
-//! Generated cases go through another program of the same job, and its outcomes are compared
-//! with our own.
+//! Generated cases go through another program of the same job, or through a step of another shape,
+//! and the outcomes are compared with our own.
 
 use std::io::{self, BufReader, BufWriter, IsTerminal, Read, Write};
 use std::process::{Child, ChildStdin, ChildStdout, Command, Stdio};
 use std::thread;
 use std::time::{Duration, Instant};
 
-use crate::cases::{Case, Outcome};
+use crate::cases::{Case, Outcome, Step};
 use crate::decode::Family;
 use crate::describe::{case_in_words, differences_in_words, report_in_short};
 use crate::generate;
@@ -134,7 +134,11 @@ fn read_outcomes(seed: u64, count: u64, program: &str, stdout: ChildStdout) -> F
         }
         if ours != theirs {
             progress.end();
-            return Found::Difference(difference(seed, number, &outcome, &theirs));
+            let read = Outcome::read(&mut &theirs[..], outcome.z.len(), outcome.x.len());
+            return Found::Difference(match read {
+                Ok(read) => difference(seed, number, ["second", "replay"], [&outcome, &read]),
+                Err(_) => format!("case {number} of seed {seed} differs\n"),
+            });
         }
         tally.add(word, outcome.report.answer);
         progress.at(number + 1);
@@ -155,20 +159,39 @@ fn early_end(program: &str, number: u64, count: u64, error: &io::Error) -> Strin
 }
 
 /// The case and both outcomes in words, and how to see them again.
-fn difference(seed: u64, number: u64, ours: &Outcome, theirs: &[u8]) -> String {
+fn difference(seed: u64, number: u64, names: [&str; 2], outcomes: [&Outcome; 2]) -> String {
     let case: Case = generate::case(seed, number);
-    let read = Outcome::read(&mut &theirs[..], ours.z.len(), ours.x.len());
-    let Ok(theirs) = read else {
-        return format!("case {number} of seed {seed} differs");
-    };
+    let [name_a, name_b] = names;
+    let [a, b] = outcomes.map(|outcome| report_in_short(&outcome.report));
     format!(
-        "difference at case {number} of seed {seed}\n{}second: {}\nreplay: {}\n{}\
+        "difference at case {number} of seed {seed}\n{}{name_a}: {a}\n{name_b}: {b}\n{}\
          repeat: second case --seed {seed} --number {number}\n",
         case_in_words(&case),
-        report_in_short(&ours.report),
-        report_in_short(&theirs.report),
-        differences_in_words(&case, ["second", "replay"], [ours, &theirs]),
+        differences_in_words(&case, names, outcomes),
     )
+}
+
+/// Compares the step that follows the pages with one of another shape, case by case; the first
+/// difference in words, if there is one.
+pub fn agree(seed: u64, count: u64, other: Step) -> Option<String> {
+    let mut progress = Progress::new(count);
+    for number in 0..count {
+        let case = generate::case(seed, number);
+        let theirs = case.outcome_by(other);
+        let ours = case.into_outcome(&Right);
+        if ours != theirs {
+            progress.end();
+            return Some(difference(
+                seed,
+                number,
+                ["pages", "plain"],
+                [&ours, &theirs],
+            ));
+        }
+        progress.at(number + 1);
+    }
+    progress.end();
+    None
 }
 
 /// The progress line on standard error: overwritten on a terminal, now and then one in a pipe.
@@ -194,7 +217,7 @@ impl Progress {
 
     fn at(&mut self, done: u64) {
         let pause = Duration::from_millis(if self.terminal { 300 } else { 10_000 });
-        if !done.is_multiple_of(64) || self.last.elapsed() < pause {
+        if done % 64 != 0 || self.last.elapsed() < pause {
             return;
         }
         self.last = Instant::now();

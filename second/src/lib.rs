@@ -13,6 +13,7 @@ pub mod describe;
 pub mod generate;
 pub mod loads;
 pub mod machine;
+pub mod plain;
 pub mod recorded;
 pub mod rng;
 pub mod rules;

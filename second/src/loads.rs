@@ -3,7 +3,7 @@
 
 use crate::decode::{decode, Family, Load};
 use crate::machine::{accepted, Answer, Bench, Machine, Stop, Vector, PC, SP};
-use crate::rules::Rules;
+use crate::rules::{Right, Rules};
 
 /// A step's answer with its count of element reads, and the element and address of 6 and 7.
 #[derive(Clone, Copy, Debug, PartialEq, Eq)]
@@ -30,6 +30,11 @@ impl Effect {
             wback: None,
         })
     }
+}
+
+/// One step under the rules as document 01 has them.
+pub fn right_step(word: u32, bench: &mut Bench) -> Report {
+    step(&Right, word, bench)
 }
 
 /// One step. Order of answers: 1, 2, 3 from the word and F64MM, 4, 3 for short VL, 5, then 6 or 7.

@@ -8,9 +8,11 @@ use std::time::Instant;
 
 use second::answer::{answer, Ended};
 use second::broken;
-use second::compare::{compare, Found};
+use second::compare::{agree, compare, Found};
 use second::describe::{case_in_words, outcome_in_words};
 use second::generate;
+use second::loads::right_step;
+use second::plain;
 use second::recorded::{hold, weave, Bad};
 use second::sample::{sample, EACH};
 use second::sharp::sharp;
@@ -19,8 +21,10 @@ use second::words::judge;
 const HELP: &str = "\
 second: a second interpreter of Arm vector loads, written apart
 
-  second answer < cases > outcomes
-      answers a stream of cases, as replay does
+  second answer [--plain] < cases > outcomes
+      answers a stream of cases, as replay does; --plain: by the step of plain shape
+  second agree --seed S --count N
+      compares the two shapes of the step over N generated cases
   second compare --seed S --count N [--replay PROGRAM]
       compares N generated cases with PROGRAM (default ./replay)
   second broken [--seed S] [--replay PROGRAM]
@@ -85,6 +89,7 @@ fn run() -> Result<(), Trouble> {
     };
     match command.as_str() {
         "--help" | "-h" | "help" => say(HELP),
+        "agree" => run_agree(rest),
         "answer" => run_answer(rest),
         "compare" => run_compare(rest),
         "broken" => run_broken(rest),
@@ -161,12 +166,29 @@ impl Options {
 }
 
 fn run_answer(words: &[String]) -> Result<(), Trouble> {
-    Options::read(words, &[], &[])?;
-    match answer(io::stdin().lock(), io::stdout().lock()) {
+    let options = Options::read(words, &[], &["--plain"])?;
+    let step = match options.text("--plain") {
+        Some(_) => plain::step,
+        None => right_step,
+    };
+    match answer(io::stdin().lock(), io::stdout().lock(), step) {
         Ok(_) => Ok(()),
         Err(Ended::Output(error)) => Err(error.into()),
         Err(Ended::Case { number, why }) => Err(Trouble::Line(1, format!("case {number}: {why}"))),
     }
+}
+
+fn run_agree(words: &[String]) -> Result<(), Trouble> {
+    let options = Options::read(words, &["--seed", "--count"], &[])?;
+    let seed = options.number("--seed", None)?;
+    let count = options.number("--count", None)?;
+    if let Some(difference) = agree(seed, count, plain::step) {
+        say(&difference)?;
+        return Err(Trouble::Said(1));
+    }
+    say(&format!(
+        "{count} cases of seed {seed}: both shapes of the step agree\n"
+    ))
 }
 
 fn run_compare(words: &[String]) -> Result<(), Trouble> {
@@ -313,7 +335,7 @@ fn bad_pair((number, why): Bad) -> Trouble {
 
 fn run_recorded(words: &[String]) -> Result<(), Trouble> {
     Options::read(words, &[], &[])?;
-    let held = hold(BufReader::new(io::stdin().lock())).map_err(bad_pair)?;
+    let held = hold(BufReader::new(io::stdin().lock()), right_step).map_err(bad_pair)?;
     say(&held.differences.concat())?;
     say(&format!(
         "{} of {} recorded steps agree\n",

@@ -3,7 +3,7 @@
 
 use std::io::Read;
 
-use crate::cases::{BadInput, Case, Outcome};
+use crate::cases::{BadInput, Case, Outcome, Step};
 use crate::describe::{case_in_words, differences_in_words};
 
 /// A pair that cannot be read, by its number.
@@ -17,12 +17,12 @@ pub struct Held {
     pub differences: Vec<String>,
 }
 
-/// Holds our outcome of each case to the recorded one.
-pub fn hold(mut pairs: impl Read) -> Result<Held, Bad> {
+/// Holds our outcome of each case, by a step, to the recorded one.
+pub fn hold(mut pairs: impl Read, step: Step) -> Result<Held, Bad> {
     let mut held = Held::default();
     while let Some(case) = Case::read(&mut pairs).map_err(|why| (held.steps, why))? {
         let recorded = recorded_outcome(&mut pairs, &case).map_err(|why| (held.steps, why))?;
-        let own = case.outcome();
+        let own = case.outcome_by(step);
         if own == recorded {
             held.agree += 1;
         } else {

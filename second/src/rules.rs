@@ -51,7 +51,7 @@ pub const DTYPES: [Dtype; 16] = [
 pub trait Rules: Sync {
     /// "Vector length VL in bits: a multiple of 128, 128 to 2,048."
     fn vl_allowed(&self, vl: u64) -> bool {
-        vl.is_multiple_of(128) && (128..=2048).contains(&vl)
+        vl % 128 == 0 && (128..=2048).contains(&vl)
     }
 
     /// "0 to 65,536 bytes each"
@@ -66,7 +66,7 @@ pub trait Rules: Sync {
 
     /// "a start not a multiple of 4,096" is refused, of an empty area too.
     fn start_allowed(&self, start: u64) -> bool {
-        start.is_multiple_of(PAGE)
+        start % PAGE == 0
     }
 
     /// "start + length over 2^64" is refused; 2^64 itself is not over.
@@ -100,7 +100,7 @@ pub trait Rules: Sync {
 
     /// "SP as base must be a multiple of 16."
     fn sp_aligned(&self, sp: u64) -> bool {
-        sp.is_multiple_of(16)
+        sp % 16 == 0
     }
 
     /// "LD1R always checks" SP, with and without write-back.

@@ -63,13 +63,16 @@ fn help_and_bad_arguments() {
     let help = text(output);
     assert_eq!(status, 0);
     let commands = [
-        "answer", "broken", "compare", "case", "recorded", "sharp", "sample", "weave", "words",
+        "agree", "answer", "broken", "compare", "case", "recorded", "sharp", "sample", "weave",
+        "words",
     ];
     for command in commands {
         assert!(help.contains(&format!("second {command}")));
     }
-    let bad: [&[&str]; 9] = [
+    let bad: [&[&str]; 11] = [
         &[],
+        &["agree", "--count", "1"],
+        &["answer", "--plain", "--plain"],
         &["nothing"],
         &["answer", "more"],
         &["compare", "--seed", "1"],
@@ -92,6 +95,29 @@ fn answer_ends_with_one_line_at_a_bad_case() {
     let (status, output, errors) = run(&["answer"], b"KKJ2");
     assert_eq!((status, output.len()), (1, 0));
     assert_eq!(errors, "second: case 0: wrong magic 4B 4B 4A 32\n");
+}
+
+#[test]
+fn both_shapes_of_the_step_answer_and_agree() {
+    let (cases, outcomes) = (place("shapes-cases"), place("shapes-outcomes"));
+    let (cases, outcomes) = (
+        cases.to_str().expect("UTF-8"),
+        outcomes.to_str().expect("UTF-8"),
+    );
+    let files = ["--cases", cases, "--outcomes", outcomes];
+    let sample = [&["sample", "--seed", "5"], files.as_slice()].concat();
+    assert_eq!(run(&sample, &[]).0, 0);
+    let cases = fs::read(cases).expect("written");
+    for arguments in [vec!["answer"], vec!["answer", "--plain"]] {
+        let (status, output, _) = run(&arguments, &cases);
+        assert_eq!(status, 0);
+        assert!(output == fs::read(outcomes).expect("written"));
+    }
+    let (status, output, _) = run(&["agree", "--seed", "4", "--count", "1000"], &[]);
+    assert_eq!(
+        (status, text(output).as_str()),
+        (0, "1000 cases of seed 4: both shapes of the step agree\n")
+    );
 }
 
 #[test]

@@ -2,10 +2,12 @@
 
 mod common;
 
-use common::bench;
+use common::{bench, both};
 use second::answer::{answer, Ended};
-use second::cases::{Case, Outcome};
+use second::cases::{Case, Outcome, Step};
 use second::generate;
+use second::loads::right_step;
+use second::plain;
 
 fn bytes(case: &Case) -> Vec<u8> {
     let mut bytes = Vec::new();
@@ -29,7 +31,7 @@ fn cases_and_outcomes_come_back_as_they_were() {
         assert_eq!(written.len(), case.size());
         let read = Case::read(&mut &written[..]).expect("a good case");
         assert_eq!(read.as_ref(), Some(&case));
-        let outcome = case.outcome();
+        let outcome = both(&case);
         let mut written = Vec::new();
         outcome.write(&mut written);
         let (z, x) = (case.bench.z.len(), case.bench.x.len());
@@ -54,14 +56,19 @@ fn the_layout_is_the_documents() {
     assert_eq!(bytes.len(), 96 + 512 + 32 + 264 + 0x8000 + 8);
 }
 
-/// Answers a stream, gives the output's length and why it ended.
+/// Answers a stream by both shapes of the step, gives the output's length and why it ended.
 fn ended(stream: &[u8]) -> (usize, u64, String) {
-    let mut output = Vec::new();
-    match answer(stream, &mut output) {
-        Ok(number) => (output.len(), number, String::new()),
-        Err(Ended::Case { number, why }) => (output.len(), number, why.to_string()),
-        Err(Ended::Output(error)) => panic!("{error}"),
-    }
+    let [pages, plain] = [right_step, plain::step].map(|step: Step| {
+        let mut output = Vec::new();
+        let (number, why) = match answer(stream, &mut output, step) {
+            Ok(number) => (number, String::new()),
+            Err(Ended::Case { number, why }) => (number, why.to_string()),
+            Err(Ended::Output(error)) => panic!("{error}"),
+        };
+        (output, number, why)
+    });
+    assert_eq!(pages, plain);
+    (pages.0.len(), pages.1, pages.2)
 }
 
 #[test]

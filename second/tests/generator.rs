@@ -1,5 +1,8 @@
 //! The generator makes the same cases again, and enough of those that matter.
 
+mod common;
+
+use common::both;
 use second::decode::{decode, Family, Load};
 use second::generate::{case, distance};
 use second::machine::{accepted, Area, Bench};
@@ -34,7 +37,7 @@ fn every_family_has_its_answers_often() {
     for number in 0..CASES {
         let case = case(SEED, number);
         if let Some(family) = Family::of(case.word) {
-            seen[family as usize][usize::from(case.outcome().report.answer)] += 1;
+            seen[family as usize][usize::from(both(&case).report.answer)] += 1;
         }
     }
     for family in Family::ALL {
@@ -52,7 +55,7 @@ type Ends = (u64, u64);
 fn elements(number: u64) -> Option<(Bench, Load, Vec<Ends>)> {
     let case = case(SEED, number);
     let load = decode(&Right, case.word, case.bench.f64mm).ok()?;
-    let report = case.outcome().report;
+    let report = both(&case).report;
     let bench = case.bench;
     if report.answer != 0 || report.count != load.lanes(bench.vl) {
         return None;

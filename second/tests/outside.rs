@@ -4,6 +4,8 @@
 use std::fs;
 use std::path::Path;
 
+use second::loads::right_step;
+use second::plain;
 use second::recorded::hold;
 use second::words::judge;
 
@@ -15,9 +17,11 @@ fn stdin_of(program: &str) -> Vec<u8> {
 
 #[test]
 fn every_recorded_step_agrees() {
-    let held = hold(stdin_of("qemu").as_slice()).expect("pairs that can be read");
-    assert_eq!(held.differences, Vec::<String>::new());
-    assert_eq!((held.agree, held.steps), (355, 355));
+    for step in [right_step, plain::step] {
+        let held = hold(stdin_of("qemu").as_slice(), step).expect("pairs that can be read");
+        assert_eq!(held.differences, Vec::<String>::new());
+        assert_eq!((held.agree, held.steps), (355, 355));
+    }
 }
 
 #[test]
@@ -33,8 +37,10 @@ fn a_step_that_differs_is_shown() {
     let mut pairs = stdin_of("qemu");
     let last = pairs.len() - 1;
     pairs[last] ^= 1;
-    let held = hold(pairs.as_slice()).expect("pairs that can be read");
-    assert_eq!((held.agree, held.steps), (354, 355));
-    assert!(held.differences[0].starts_with("step 354 differs"));
-    assert!(held.differences[0].contains("pc: here"));
+    for step in [right_step, plain::step] {
+        let held = hold(pairs.as_slice(), step).expect("pairs that can be read");
+        assert_eq!((held.agree, held.steps), (354, 355));
+        assert!(held.differences[0].starts_with("step 354 differs"));
+        assert!(held.differences[0].contains("pc: here"));
+    }
 }

@@ -1,7 +1,10 @@
 //! The sample covers what it must and stays small.
 
+mod common;
+
 use std::collections::BTreeSet;
 
+use common::both;
 use second::cases::Case;
 use second::decode::Family;
 use second::machine::Answer;
@@ -54,7 +57,7 @@ fn the_files_hold_the_cases_and_their_outcomes() {
     let mut outcomes = Vec::new();
     let mut number = 0;
     while let Some(case) = Case::read(&mut stream).expect("a good case") {
-        case.outcome().write(&mut outcomes);
+        both(&case).write(&mut outcomes);
         number += 1;
     }
     assert_eq!(number, sample.numbers.len());

@@ -126,7 +126,7 @@ bent! {
 
     SpEight:
     fn sp_aligned(&self, sp: u64) -> bool {
-        sp.is_multiple_of(8)
+        sp % 8 == 0
     }
 
     PostNoSp:

@@ -1,9 +1,11 @@
-//! An accepted bench to start a test from.
+//! An accepted bench to start a test from, and one step by both shapes of the interpreter.
 
 #![allow(dead_code)]
 
 use second::cases::{Case, Outcome};
+use second::describe::{case_in_words, differences};
 use second::machine::{Area, Bench, PC, SCALARS, SP};
+use second::plain;
 
 /// Where X0 points at first, in the middle of readable flash.
 pub const X0: u64 = 0x10_4000;
@@ -61,13 +63,21 @@ pub fn p0(bench: &mut Bench, bits: &[u64]) {
     }
 }
 
+/// The outcome of a case, which both shapes of the step must agree upon.
+pub fn both(case: &Case) -> Outcome {
+    let pages = case.outcome();
+    let plain = case.outcome_by(plain::step);
+    let lines = || differences(case, ["pages", "plain"], [&pages, &plain]);
+    assert!(pages == plain, "{}{:#?}", case_in_words(case), lines());
+    pages
+}
+
 pub fn step(word: u32, bench: &Bench) -> Outcome {
-    let case = Case {
+    let outcome = both(&Case {
         word,
         level: 0,
         bench: bench.clone(),
-    };
-    let outcome = case.outcome();
+    });
     if outcome.report.answer != 0 {
         assert_eq!(outcome.z, bench.z, "an answer other than 0 changes no byte");
         assert_eq!(outcome.x, bench.x, "nor a number");
