@@ -7,17 +7,19 @@ import sys
 
 from desk import as_json, program, showing
 from desk.bench import BadInput, Script, Trouble
+from desk.cases import case
 from desk.keys import one_line
-from desk.reading import read
+from desk.reading import read, reason
 from desk.telling import tell
 
 HELP = """\
-usage: ./kj [--json] [--program COMMAND] FILE
+usage: ./kj [--json] [--cases OUT] [--program COMMAND] FILE
 
 Steps Arm vector loads on a bench that is written down in FILE, by the proved program, and shows each answer and what changed.
 Try it:  ./kj demo/crossing-north.toml
 
   --json             one JSON document instead of text
+  --cases OUT        write the cases that were stepped to the file OUT as well (docs/CASES.md); ./replay < OUT steps them again
   --program COMMAND  step by another program that reads cases and writes outcomes (docs/CASES.md), such as
                      'second/target/release/second answer', in place of the proved one; the first line then says so
   --help             this
@@ -66,6 +68,7 @@ def arguments(argv: list[str]) -> argparse.Namespace:
     parser.add_argument("file", nargs="?")
     parser.add_argument("-h", "--help", action="store_true")
     parser.add_argument("--json", action="store_true")
+    parser.add_argument("--cases")
     parser.add_argument("--program")
     asked, more = parser.parse_known_args(argv)
     if more:
@@ -80,20 +83,34 @@ def colours() -> bool:
     return sys.stdout.isatty() and not os.environ.get("NO_COLOR") and os.environ.get("TERM") != "dumb"
 
 
-def run(script: Script, command: list[str], as_document: bool, other: str | None) -> None:
+def run(script: Script, command: list[str], asked: argparse.Namespace) -> None:
     """Steps the words and shows each as it is answered; a JSON document is written whole or not at all."""
     paint = showing.Paint(colours())
+    other = asked.program
     above = (f"stepped by {one_line(other)}, not by the proved program\n" if other else "") + showing.heading(script, paint)
     bench, tolds = script.bench, []
     for number, step in enumerate(script.steps, 1):
         outcome = program.step(command, step.word, bench)
         tolds.append(tell(step, bench, outcome))
         bench = outcome.bench
-        if not as_document:
+        if not asked.json:
             put(above + showing.step(number, tolds[-1], paint))
             above = ""
-    if as_document:
+    if asked.json:
         put(as_json.document(script, tolds, other))
+    if asked.cases is not None:
+        put_file(asked.cases, b"".join(case(told.step.word, told.before) for told in tolds))
+
+
+def put_file(path: str, content: bytes) -> None:
+    """Writes a file whole or not at all."""
+    part = f"{path}.part"
+    try:
+        with open(part, "wb") as file:
+            file.write(content)
+        os.replace(part, path)
+    except (OSError, ValueError) as error:
+        raise Trouble(f"{path}: cannot be written: {reason(error)}") from None
 
 
 def put(text: str) -> None:
@@ -120,7 +137,7 @@ def obey(argv: list[str]) -> None:
     else:
         command = [str(program.ROOT / "replay")]
         program.build()
-    run(script, command, asked.json, asked.program)
+    run(script, command, asked)
 
 
 def other_program(text: str) -> list[str]:

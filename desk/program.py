@@ -99,23 +99,27 @@ def limited() -> None:
 
 def step(command: list[str], word: int, bench: Bench) -> Outcome:
     """Has the program step one word. A run for each word, from a file into files, so that nothing rests on when it reads and writes."""
-    name = command[0]
-    with TemporaryFile() as given, TemporaryFile() as said, TemporaryFile() as complained:
-        given.write(case(word, bench))
-        given.seek(0)
-        try:
-            status = subprocess.run(command, stdin=given, stdout=said, stderr=complained, timeout=SECONDS, preexec_fn=limited).returncode
-        except OSError as error:
-            raise Trouble(f"{name}: cannot be run: {error.strerror}") from None
-        except subprocess.TimeoutExpired:
-            raise Trouble(f"{name}: no outcome after {SECONDS} s") from None
-        said.seek(0)
-        complained.seek(0)
-        why = complained.read(1000).decode(errors="replace").strip().splitlines()
-        if status != 0 or why:
-            ended = f"ended by signal {-status}" if status < 0 else f"exit status {status}"
-            raise Trouble(f"{name}: {why[-1] if why else ended}")
-        try:
-            return outcome(said.read(), bench)
-        except ValueError as error:
-            raise Trouble(f"{name}: {error}") from None
+    try:
+        with TemporaryFile() as given, TemporaryFile() as said, TemporaryFile() as complained:
+            given.write(case(word, bench))
+            given.seek(0)
+            ran = subprocess.run(command, stdin=given, stdout=said, stderr=complained, timeout=SECONDS, preexec_fn=limited)
+            said.seek(0)
+            complained.seek(0)
+            return answered(ran.returncode, said.read(), complained.read(1000), bench)
+    except OSError as error:
+        raise Trouble(f"{command[0]}: cannot be run: {error.strerror}") from None
+    except subprocess.TimeoutExpired:
+        raise Trouble(f"{command[0]}: no outcome after {SECONDS} s") from None
+    except ValueError as error:
+        raise Trouble(f"{command[0]}: {error}") from None
+
+
+def answered(status: int, said: bytes, complained: bytes, bench: Bench) -> Outcome:
+    """The outcome, if the program ended well and complained of nothing."""
+    why = complained.decode(errors="replace").strip().splitlines()
+    if why:
+        raise ValueError(why[-1])
+    if status != 0:
+        raise ValueError(f"ended by signal {-status}" if status < 0 else f"exit status {status}")
+    return outcome(said, bench)

@@ -96,7 +96,9 @@ def lanes(told: Told, shown: Shown, paint: Paint) -> list[str]:
     wide = max(map(len, olds), default=0)
     places = [f"[{line[0].number}]" for line in rows]
     names = [f"z{shown.target}.{shown.lane}"] + [""] * len(rows)
-    return [f"   {name:<5} {place:<{len(places[-1])}} {arrow(f'{old:<{wide}}', new, paint)}" for name, place, old, new in zip(names, places, olds, news)]
+    far = max(map(len, places), default=0)
+    changes = [arrow(f"{old:<{wide}}", new, paint) for old, new in zip(olds, news)]
+    return [f"   {name:<5} {place:<{far}} {change}" for name, place, change in zip(names, places, changes)]
 
 
 def float_cell(lane: bytes) -> str:

@@ -44,7 +44,8 @@ class Building(Benches):
         if rt is not None:
             self.script(self.folder / "bin" / "rt", rt)
         path = f"{self.folder / 'bin'}:{os.defpath}:{os.path.dirname(shutil.which('python3'))}"
-        return subprocess.Popen(["./kj", self.bench], stdout=subprocess.PIPE, stderr=subprocess.PIPE, text=True, cwd=self.copy, env=os.environ | {"PATH": path})
+        pipe = subprocess.PIPE
+        return subprocess.Popen(["./kj", self.bench], stdout=pipe, stderr=pipe, text=True, cwd=self.copy, env=os.environ | {"PATH": path})
 
     def kj(self, rt: str | None) -> subprocess.CompletedProcess:
         with self.start(rt) as running:
@@ -94,7 +95,8 @@ class Building(Benches):
     def test_a_build_that_fails(self) -> None:
         ran = self.kj(BROKEN)
         self.assertEqual((ran.returncode, ran.stdout), (2, ""))
-        self.assertEqual(ran.stderr.splitlines()[-1], "kj: the program could not be built; 'rt check replay' says: rt: ground NOT PROVED (exit 1, 3 s)")
+        last = "kj: the program could not be built; 'rt check replay' says: rt: ground NOT PROVED (exit 1, 3 s)"
+        self.assertEqual(ran.stderr.splitlines()[-1], last)
 
     def test_a_program_that_is_older_than_a_source_that_is_not_proved(self) -> None:
         self.kj(RT)

@@ -102,11 +102,15 @@ class Showing(Benches):
     def test_each_step_goes_on_from_the_one_before(self) -> None:
         words = "[0xA5E0A000, 0, 0xA5E0A000]"
         ran = kj(*BY_SECOND, self.write(toml(words=words, scalars="{ x0 = 0x1000, pc = 0x40 }")))
-        self.assertEqual([line.strip() for line in ran.stdout.splitlines() if " pc " in line], ["pc    0x40 -> 0x44", "pc    0x44  unchanged", "pc    0x44 -> 0x48"])
+        counters = [line.strip() for line in ran.stdout.splitlines() if " pc " in line]
+        self.assertEqual(counters, ["pc    0x40 -> 0x44", "pc    0x44  unchanged", "pc    0x44 -> 0x48"])
 
     def test_floats_by_the_fewest_digits(self) -> None:
-        for code, value, text in [("<f", 0.1, "0.1"), ("<f", 359.9, "359.9"), ("<f", 2.0**-149, "1e-45"), ("<d", 0.1, "0.1"), ("<f", float("-inf"), "-inf"), ("<d", float("nan"), "nan")]:
-            self.assertEqual(float_text(struct.pack(code, value)), text)
+        singles = [(0.1, "0.1"), (359.9, "359.9"), (2.0**-149, "1e-45"), (-0.0, "-0.0"), (float("-inf"), "-inf")]
+        for value, text in singles:
+            self.assertEqual(float_text(struct.pack("<f", value)), text)
+        for value, text in [(0.1, "0.1"), (1e300, "1e+300"), (float("nan"), "nan")]:
+            self.assertEqual(float_text(struct.pack("<d", value)), text)
         for bits in range(0, 2**32, 65_537 * 41):
             lane = bits.to_bytes(4, "little")
             value = float(float_text(lane))
@@ -139,6 +143,19 @@ class Showing(Benches):
         ascii_only = {"PYTHONIOENCODING": "ascii"}
         self.assertEqual(json.loads(kj("--json", *BY_SECOND, bench, env=ascii_only).stdout)["title"], "nørth → 0°")
         self.assertIn("n\\xf8rth", kj(*BY_SECOND, bench, env=ascii_only).stdout)
+
+    def test_the_cases_that_were_stepped(self) -> None:
+        """Each begins with its magic, and the second goes on from what the first left: PC is 4."""
+        out = self.folder / "out"
+        self.assertEqual(kj(*BY_SECOND, "--cases", str(out), self.write(toml(words="[0xA5E0A000, 0]"))).returncode, 0)
+        data = out.read_bytes()
+        first = 96 + 32 * 16 + 16 * 2 + 33 * 8 + 16 + 1
+        self.assertEqual((len(data), data[:8], data[first : first + 8]), (2 * first, b"KKJ1\x00\xa0\xe0\xa5", b"KKJ1" + bytes(4)))
+        counter = 96 + 32 * 16 + 16 * 2 + 32 * 8
+        self.assertEqual((data[counter : counter + 8], data[first + counter : first + counter + 8]), (bytes(8), bytes([4]) + bytes(7)))
+        self.assertEqual([path.name for path in self.folder.iterdir() if path.name != "bench.toml"], ["out"])
+        ran = kj(*BY_SECOND, "--cases", str(self.folder / "no" / "out"), self.write(toml()))
+        self.assertEqual((ran.returncode, ran.stderr), (2, f"kj: {self.folder}/no/out: cannot be written: No such file or directory\n"))
 
     def test_help(self) -> None:
         ran = kj("--help")
@@ -181,7 +198,13 @@ class BadUse(Benches):
         self.write("#!/bin/sh\necho 'replay: case 0: bad' >&2\n", "refuses")
         for name in ("short", "refuses"):
             os.chmod(self.folder / name, 0o755)
-        for program, why in [("/not/there", "cannot be run: No such file"), ("false", "exit status 1"), (f"{self.folder}/short", "short: 7 bytes came where an outcome has 801"), ("yes", "yes: ended by signal"), (f"{self.folder}/refuses", "case 0: bad")]:
+        for program, why in [
+            ("/not/there", "/not/there: cannot be run: No such file"),
+            ("false", "false: exit status 1"),
+            ("yes", "yes: ended by signal"),
+            (f"{self.folder}/short", "short: 7 bytes came where an outcome has 801"),
+            (f"{self.folder}/refuses", "refuses: replay: case 0: bad"),
+        ]:
             self.assert_one_line(kj("--json", "--program", program, bench), why)
             self.assert_one_line(kj("--program", program, bench), why)
 

@@ -8,6 +8,8 @@ from desk.program import built
 from desk.tests.common import BY_SECOND, ROOT, Benches, kj
 
 DEMOS = ("crossing-north", "page-end", "left-over")
+# their cases one behind the other, which stand in the input of the proved program too, behind the sample
+CASES = ROOT / "demo" / "demos.cases"
 
 
 def bits(value: float) -> str:
@@ -60,6 +62,14 @@ class Demos(Benches):
             self.assertEqual("\n".join(block).strip(), "\n".join(said).strip())
             shown += 1
         self.assertGreaterEqual(shown, 1)
+
+    def test_the_cases_are_those_that_the_gate_has_the_proved_program_step(self) -> None:
+        packed = b""
+        for name in DEMOS:
+            kj(*BY_SECOND, "--cases", str(self.folder / name), f"demo/{name}.toml")
+            packed += (self.folder / name).read_bytes()
+        self.assertEqual(packed, CASES.read_bytes())
+        self.assertTrue((ROOT / "crates" / "replay" / "stdin").read_bytes().endswith(packed))
 
     @unittest.skipUnless(built(), "the proved program is not built")
     def test_the_proved_program_steps_them_alike(self) -> None:

@@ -14,7 +14,7 @@ use second::generate;
 use second::loads::right_step;
 use second::plain;
 use second::recorded::{hold, weave, Bad};
-use second::sample::{sample, EACH};
+use second::sample::{sample, Sample, EACH};
 use second::sharp::sharp;
 use second::words::judge;
 
@@ -33,8 +33,9 @@ second: a second interpreter of Arm vector loads, written apart
       shows one generated case and its outcome in words; writes its bytes
   second sharp [--seed S] [--limit N]
       how many cases tell each deliberately wrong variant apart (defaults 1 and 20000)
-  second sample --seed S [--check] --cases FILE --outcomes FILE
-      writes a sample of cases and their outcomes, or checks that the files are that sample
+  second sample --seed S [--more CASES] [--check] --cases FILE --outcomes FILE
+      writes a sample of cases and their outcomes, or checks that the files are that sample; behind
+      it come the cases of the file CASES
   second words < words.txt
       compares lines `hhhhhhhh text...` of binutils with our decoder and disassembler
   second recorded < pairs
@@ -273,10 +274,15 @@ fn run_sharp(words: &[String]) -> Result<(), Trouble> {
 }
 
 fn run_sample(words: &[String]) -> Result<(), Trouble> {
-    let options = Options::read(words, &["--seed", "--cases", "--outcomes"], &["--check"])?;
+    let values = ["--seed", "--more", "--cases", "--outcomes"];
+    let options = Options::read(words, &values, &["--check"])?;
     let seed = options.number("--seed", None)?;
     let files = [options.needed("--cases")?, options.needed("--outcomes")?];
-    let sample = sample(seed).map_err(|why| Trouble::Line(1, why))?;
+    let mut sample = sample(seed).map_err(|why| Trouble::Line(1, why))?;
+    let more = match options.text("--more") {
+        Some(file) => put_behind(&mut sample, file)?,
+        None => 0,
+    };
     let contents = [&sample.cases, &sample.outcomes];
     for (file, bytes) in files.into_iter().zip(contents) {
         if options.text("--check").is_some() {
@@ -286,13 +292,27 @@ fn run_sample(words: &[String]) -> Result<(), Trouble> {
         }
     }
     say(&format!(
-        "{} cases of seed {seed}, {} + {} bytes; {} cells covered, \
+        "{} cases of seed {seed} and {more} more, {} + {} bytes; {} cells covered, \
          each family with each answer at least {EACH} times\n",
         sample.numbers.len(),
         sample.cases.len(),
         sample.outcomes.len(),
         sample.cells.len(),
     ))
+}
+
+/// Puts the cases of a file behind the sample, and their outcomes; gives how many there are.
+fn put_behind(sample: &mut Sample, file: &str) -> Result<u64, Trouble> {
+    let cases = read_file(file)?;
+    let more =
+        answer(&cases[..], &mut sample.outcomes, right_step).map_err(|ended| match ended {
+            Ended::Output(error) => error.into(),
+            Ended::Case { number, why } => {
+                Trouble::Line(1, format!("{file}: case {number}: {why}"))
+            }
+        })?;
+    sample.cases.extend(cases);
+    Ok(more)
 }
 
 fn read_file(file: &str) -> Result<Vec<u8>, Trouble> {

@@ -236,6 +236,42 @@ fn a_sample_is_written_and_checked() {
 }
 
 #[test]
+fn more_cases_stand_behind_a_sample() {
+    let files = [
+        "more",
+        "with.cases",
+        "with.outcomes",
+        "own.cases",
+        "own.outcomes",
+    ]
+    .map(place);
+    let [more, cases, outcomes, own, told] =
+        files.each_ref().map(|file| file.to_str().expect("UTF-8"));
+    let case = ["case", "--seed", "9", "--number", "4", "--bytes", more];
+    assert_eq!(run(&case, &[]).0, 0);
+    let sample = |cases, outcomes| {
+        let seed = ["sample", "--seed", "1", "--cases", cases];
+        [&seed[..], &["--outcomes", outcomes]].concat()
+    };
+    assert_eq!(run(&sample(own, told), &[]).0, 0);
+    let with = [&sample(cases, outcomes)[..], &["--more", more]].concat();
+    let (status, output, _) = run(&with, &[]);
+    assert_eq!(status, 0);
+    assert!(text(output).contains(" and 1 more, "));
+    let read = |file: &str| fs::read(file).expect("written");
+    assert!(read(cases) == [read(own), read(more)].concat());
+    let (_, outcome, _) = run(&["answer"], &read(more));
+    assert!(read(outcomes) == [read(told), outcome].concat());
+    assert_eq!(run(&[&with[..], &["--check"]].concat(), &[]).0, 0);
+    let without = [&sample(cases, outcomes)[..], &["--check"]].concat();
+    assert_eq!(run(&without, &[]).0, 1);
+    fs::write(more, b"KKJ1").expect("written");
+    let (status, _, errors) = run(&with, &[]);
+    assert_eq!((status, errors.lines().count()), (1, 1));
+    assert!(errors.contains("more: case 0: "), "{errors}");
+}
+
+#[test]
 fn words_agree_or_are_shown() {
     let (status, output, _) = run(&["words"], b"85c0e000 ld1rd {z0.d}, p0/z, [x0]\n");
     assert_eq!((status, text(output).lines().count()), (0, 1));
