@@ -154,52 +154,40 @@ fn ld1r_element<R: Rules + ?Sized>(machine: &mut Machine<R>, load: &Load) -> Res
     Effect::z(t, result)
 }
 
-/// Page 003, LD1 (scalar plus immediate, single register).
+/// Page 003, LD1 (scalar plus immediate, single register): an immediate counts whole vectors as they
+/// lie in memory.
 fn ld1_immediate<R: Rules + ?Sized>(machine: &mut Machine<R>, load: &Load) -> Result<Effect, Stop> {
-    let Load {
-        t,
-        n,
-        g,
-        esize,
-        msize,
-        ..
-    } = *load;
     machine.check_sve_enabled()?;
-    let vl = machine.current_vl();
-    let elements = vl / esize;
-    let mask = machine.p(g);
-    let mut result = Vector::zeros(vl);
-    let mbytes = msize / 8;
-    machine.check_sp_if(n, machine.any_active(mask, elements, esize))?;
-    let base = machine.x(n);
-    let scale = (machine.rules).immediate_scale(mask, elements, mbytes, esize / 8);
-    for e in 0..elements {
-        if machine.active(mask, e, esize) {
-            // eoff = (offset * elements) + e; addr = base + eoff * mbytes
-            let eoff = i128::from(load.offset) * i128::from(scale) + i128::from(e * mbytes);
-            let addr = machine.rules.address(base, eoff);
-            let data = machine.mem(e, addr, mbytes)?;
-            let value = machine.rules.extend(data, msize, load.unsigned);
-            result.set_elem(e, esize, value);
-        } else {
-            result.set_elem(e, esize, 0);
-        }
-    }
-    Effect::z(t, result)
+    let elements = machine.current_vl() / load.esize;
+    let mask = machine.p(load.g);
+    let (mbytes, ebytes) = (load.msize / 8, load.esize / 8);
+    let scale = (machine.rules).immediate_scale(mask, elements, mbytes, ebytes);
+    contiguous(machine, load, i128::from(load.offset) * i128::from(scale))
 }
 
-/// LD1 (scalar plus scalar, single register), Arm's public page.
+/// LD1 (scalar plus scalar, single register), Arm's public page: an index counts elements.
 fn ld1_scalar<R: Rules + ?Sized>(machine: &mut Machine<R>, load: &Load) -> Result<Effect, Stop> {
+    machine.check_sve_enabled()?;
+    let scale = machine.rules.scalar_scale(load.msize / 8, load.esize / 8);
+    let offset = i128::from(machine.x(load.m)) * i128::from(scale);
+    contiguous(machine, load, offset)
+}
+
+/// What the pages of LD1 have in common: from `elements = VL DIV esize` to the end. `offset` is the
+/// distance of element 0 from the base in bytes.
+fn contiguous<R: Rules + ?Sized>(
+    machine: &mut Machine<R>,
+    load: &Load,
+    offset: i128,
+) -> Result<Effect, Stop> {
     let Load {
         t,
         n,
-        m,
         g,
         esize,
         msize,
         ..
     } = *load;
-    machine.check_sve_enabled()?;
     let vl = machine.current_vl();
     let elements = vl / esize;
     let mask = machine.p(g);
@@ -207,13 +195,9 @@ fn ld1_scalar<R: Rules + ?Sized>(machine: &mut Machine<R>, load: &Load) -> Resul
     let mbytes = msize / 8;
     machine.check_sp_if(n, machine.any_active(mask, elements, esize))?;
     let base = machine.x(n);
-    let offset = i128::from(machine.x(m));
-    let scale = i128::from(machine.rules.scalar_scale(mbytes, esize / 8));
     for e in 0..elements {
         if machine.active(mask, e, esize) {
-            // addr = base + (UInt(offset) + e) * mbytes
-            let eoff = offset * scale + i128::from(e * mbytes);
-            let addr = machine.rules.address(base, eoff);
+            let addr = (machine.rules).address(base, offset + i128::from(e * mbytes));
             let data = machine.mem(e, addr, mbytes)?;
             let value = machine.rules.extend(data, msize, load.unsigned);
             result.set_elem(e, esize, value);

@@ -12,6 +12,39 @@ fn place(name: &str) -> PathBuf {
     Path::new(env!("CARGO_TARGET_TMPDIR")).join(name)
 }
 
+fn read(file: &str) -> Vec<u8> {
+    fs::read(file).expect("written")
+}
+
+/// The two files of a sample, under names of a test's own.
+struct Files {
+    cases: String,
+    outcomes: String,
+}
+
+impl Files {
+    fn of(test: &str) -> Files {
+        let [cases, outcomes] = ["cases", "outcomes"].map(|what| {
+            let path = place(&format!("{test}.{what}"));
+            path.to_str().expect("UTF-8").to_string()
+        });
+        Files { cases, outcomes }
+    }
+
+    /// A command that is given both files.
+    fn with<'a>(&'a self, command: &[&'a str]) -> Vec<&'a str> {
+        let files = ["--cases", &self.cases, "--outcomes", &self.outcomes];
+        [command, &files].concat()
+    }
+
+    /// A sample of a seed is written to them.
+    fn sampled(test: &str, seed: &str) -> Files {
+        let files = Files::of(test);
+        assert_eq!(run(&files.with(&["sample", "--seed", seed]), &[]).0, 0);
+        files
+    }
+}
+
 /// Runs `second` with this input; gives exit status, output, and lines of standard error.
 fn run(arguments: &[&str], input: &[u8]) -> (i32, Vec<u8>, String) {
     let mut child = Command::new(SECOND)
@@ -99,19 +132,11 @@ fn answer_ends_with_one_line_at_a_bad_case() {
 
 #[test]
 fn both_shapes_of_the_step_answer_and_agree() {
-    let (cases, outcomes) = (place("shapes-cases"), place("shapes-outcomes"));
-    let (cases, outcomes) = (
-        cases.to_str().expect("UTF-8"),
-        outcomes.to_str().expect("UTF-8"),
-    );
-    let files = ["--cases", cases, "--outcomes", outcomes];
-    let sample = [&["sample", "--seed", "5"], files.as_slice()].concat();
-    assert_eq!(run(&sample, &[]).0, 0);
-    let cases = fs::read(cases).expect("written");
+    let files = Files::sampled("shapes", "5");
     for arguments in [vec!["answer"], vec!["answer", "--plain"]] {
-        let (status, output, _) = run(&arguments, &cases);
+        let (status, output, _) = run(&arguments, &read(&files.cases));
         assert_eq!(status, 0);
-        assert!(output == fs::read(outcomes).expect("written"));
+        assert!(output == read(&files.outcomes));
     }
     let (status, output, _) = run(&["agree", "--seed", "4", "--count", "1000"], &[]);
     assert_eq!(
@@ -211,62 +236,38 @@ fn sharp_tells_all_apart_or_says_so() {
 
 #[test]
 fn a_sample_is_written_and_checked() {
-    let files = [place("sample.cases"), place("sample.outcomes")];
-    let [cases, outcomes] = files.each_ref().map(|file| file.to_str().expect("UTF-8"));
-    let arguments = [
-        "sample",
-        "--seed",
-        "1",
-        "--cases",
-        cases,
-        "--outcomes",
-        outcomes,
-    ];
-    assert_eq!(run(&arguments, &[]).0, 0);
-    let check = [&arguments[..], &["--check"]].concat();
+    let files = Files::sampled("sample", "1");
+    let check = files.with(&["sample", "--seed", "1", "--check"]);
     assert_eq!(run(&check, &[]).0, 0);
-    let (status, output, _) = run(&["answer"], &fs::read(cases).expect("written"));
+    let (status, output, _) = run(&["answer"], &read(&files.cases));
     assert_eq!(status, 0);
-    assert!(output == fs::read(outcomes).expect("written"));
+    assert!(output == read(&files.outcomes));
     let mut other = output;
     other.pop();
-    fs::write(outcomes, other).expect("written");
+    fs::write(&files.outcomes, other).expect("written");
     let (status, _, errors) = run(&check, &[]);
     assert_eq!((status, errors.lines().count()), (1, 1));
 }
 
 #[test]
 fn more_cases_stand_behind_a_sample() {
-    let files = [
-        "more",
-        "with.cases",
-        "with.outcomes",
-        "own.cases",
-        "own.outcomes",
-    ]
-    .map(place);
-    let [more, cases, outcomes, own, told] =
-        files.each_ref().map(|file| file.to_str().expect("UTF-8"));
+    let (own, with) = (Files::sampled("own", "1"), Files::of("with"));
+    let more = place("more");
+    let more = more.to_str().expect("UTF-8");
     let case = ["case", "--seed", "9", "--number", "4", "--bytes", more];
     assert_eq!(run(&case, &[]).0, 0);
-    let sample = |cases, outcomes| {
-        let seed = ["sample", "--seed", "1", "--cases", cases];
-        [&seed[..], &["--outcomes", outcomes]].concat()
-    };
-    assert_eq!(run(&sample(own, told), &[]).0, 0);
-    let with = [&sample(cases, outcomes)[..], &["--more", more]].concat();
-    let (status, output, _) = run(&with, &[]);
+    let sample = ["sample", "--seed", "1", "--more", more];
+    let (status, output, _) = run(&with.with(&sample), &[]);
     assert_eq!(status, 0);
     assert!(text(output).contains(" and 1 more, "));
-    let read = |file: &str| fs::read(file).expect("written");
-    assert!(read(cases) == [read(own), read(more)].concat());
+    assert!(read(&with.cases) == [read(&own.cases), read(more)].concat());
     let (_, outcome, _) = run(&["answer"], &read(more));
-    assert!(read(outcomes) == [read(told), outcome].concat());
-    assert_eq!(run(&[&with[..], &["--check"]].concat(), &[]).0, 0);
-    let without = [&sample(cases, outcomes)[..], &["--check"]].concat();
-    assert_eq!(run(&without, &[]).0, 1);
+    assert!(read(&with.outcomes) == [read(&own.outcomes), outcome].concat());
+    let check = [&sample[..], &["--check"]].concat();
+    assert_eq!(run(&with.with(&check), &[]).0, 0);
+    assert_eq!(run(&own.with(&check), &[]).0, 1);
     fs::write(more, b"KKJ1").expect("written");
-    let (status, _, errors) = run(&with, &[]);
+    let (status, _, errors) = run(&with.with(&sample), &[]);
     assert_eq!((status, errors.lines().count()), (1, 1));
     assert!(errors.contains("more: case 0: "), "{errors}");
 }
@@ -316,15 +317,8 @@ fn broken_streams_are_told_from_good_ones() {
 
 #[test]
 fn pairs_are_woven_and_held() {
-    let (cases, outcomes) = (place("woven-cases"), place("woven-outcomes"));
-    let (cases, outcomes) = (
-        cases.to_str().expect("UTF-8"),
-        outcomes.to_str().expect("UTF-8"),
-    );
-    let files = ["--cases", cases, "--outcomes", outcomes];
-    let sample = [&["sample", "--seed", "3"], files.as_slice()].concat();
-    assert_eq!(run(&sample, &[]).0, 0);
-    let weave = [&["weave"], files.as_slice()].concat();
+    let files = Files::sampled("woven", "3");
+    let weave = files.with(&["weave"]);
     let (status, pairs, _) = run(&weave, &[]);
     assert_eq!(status, 0);
     let (status, output, _) = run(&["recorded"], &pairs);
@@ -332,9 +326,9 @@ fn pairs_are_woven_and_held() {
         (status, text(output).as_str()),
         (0, "500 of 500 recorded steps agree\n")
     );
-    let mut more = fs::read(outcomes).expect("read");
+    let mut more = read(&files.outcomes);
     more.push(0);
-    fs::write(outcomes, more).expect("written");
+    fs::write(&files.outcomes, more).expect("written");
     let (status, pairs, errors) = run(&weave, &[]);
     assert_eq!((status, pairs.len(), errors.lines().count()), (1, 0, 1));
 }

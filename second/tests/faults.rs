@@ -5,17 +5,20 @@ mod common;
 use common::*;
 use second::machine::PC;
 
+/// A load of doubles of each kind that a predicate governs.
+const PREDICATED: [u32; 5] = [
+    0x85C0_E000,
+    0xA5E0_A000,
+    0xA5E1_4000,
+    0xA580_2000,
+    0xA5A0_2000,
+];
+
 #[test]
 fn an_inactive_lane_becomes_zero() {
     let mut bench = bench(256);
     p0(&mut bench, &[8]);
-    for word in [
-        0x85C0_E000,
-        0xA5E0_A000,
-        0xA5E1_4000,
-        0xA580_2000,
-        0xA5A0_2000,
-    ] {
+    for word in PREDICATED {
         let (z, _) = ran(word, &bench);
         assert_eq!(z[..8], [0; 8], "{word:08x}");
         assert_ne!(z[8..16], [0; 8], "{word:08x}");
@@ -27,13 +30,7 @@ fn only_the_lowest_bit_of_a_group_makes_its_lane_active() {
     let mut bench = bench(256);
     let others: Vec<u64> = (0..32).filter(|bit| bit % 8 != 0).collect();
     p0(&mut bench, &others);
-    for word in [
-        0x85C0_E000,
-        0xA5E0_A000,
-        0xA5E1_4000,
-        0xA580_2000,
-        0xA5A0_2000,
-    ] {
+    for word in PREDICATED {
         assert_eq!(ran(word, &bench), (vec![0; 32], 0), "{word:08x}");
     }
 }
