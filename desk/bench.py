@@ -6,6 +6,9 @@ PAGE = 4096
 VECTORS = 32
 PREDICATES = 16
 
+# what a rights byte is called; another one is a number
+RIGHTS = {"read": 1, "none": 0}
+
 # the scalar file in its order: X0 to X30, SP, PC
 SCALARS = [f"x{n}" for n in range(31)] + ["sp", "pc"]
 
@@ -67,11 +70,3 @@ class Script:
     title: str
     bench: Bench
     steps: list[Step]
-
-
-class BadInput(Exception):
-    """What a person wrote cannot be used; the text is one line that names the file, and the key where there is one."""
-
-
-class Trouble(Exception):
-    """The program could not be built or run, or what it answered not written; the text is one line."""

@@ -6,10 +6,10 @@ import shlex
 import sys
 
 from desk import as_json, program, showing
-from desk.bench import BadInput, Script, Trouble
+from desk.bench import Script
 from desk.cases import case
-from desk.keys import one_line
-from desk.reading import read, reason
+from desk.complaints import BadInput, Trouble, one_line, reason
+from desk.reading import read
 from desk.telling import tell
 
 HELP = """\
@@ -103,14 +103,28 @@ def run(script: Script, command: list[str], asked: argparse.Namespace) -> None:
 
 
 def put_file(path: str, content: bytes) -> None:
-    """Writes a file whole or not at all."""
-    part = f"{path}.part"
+    """Writes a plain file whole or not at all. A pipe or a device is written to, and never put away for a file."""
     try:
-        with open(part, "wb") as file:
-            file.write(content)
-        os.replace(part, path)
+        if os.path.exists(path) and not os.path.isfile(path):
+            with open(path, "wb") as file:
+                file.write(content)
+        else:
+            put_whole(os.path.realpath(path), content)
     except (OSError, ValueError) as error:
         raise Trouble(f"{path}: cannot be written: {reason(error)}") from None
+
+
+def put_whole(path: str, content: bytes) -> None:
+    """Beside the file first, under a name that was free."""
+    part = f"{path}.part"
+    file = open(part, "xb")
+    try:
+        with file:
+            file.write(content)
+        os.replace(part, path)
+    except OSError:
+        os.unlink(part)
+        raise
 
 
 def put(text: str) -> None:

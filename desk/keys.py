@@ -4,7 +4,7 @@ import re
 from collections.abc import Iterable
 from typing import Any, NoReturn
 
-from desk.bench import BadInput
+from desk.complaints import BadInput, brief
 
 HEXADECIMAL = re.compile("0[xX][0-9A-Fa-f]+")
 
@@ -13,16 +13,6 @@ def kind(value: Any) -> str:
     """What a value is, in a word that a person who writes TOML knows."""
     names = {bool: "true or false", int: "a whole number", float: "a number with a point", str: "a string", list: "a list", dict: "a table"}
     return names.get(type(value), "a date or time")
-
-
-def one_line(text: str) -> str:
-    """A text without what would break a line or a terminal."""
-    return "".join(c if c.isprintable() else "?" for c in text)
-
-
-def brief(text: str) -> str:
-    """What a file says, short enough to leave room for what is wrong with it."""
-    return text if len(text) <= 40 else text[:40] + ".."
 
 
 class Table:

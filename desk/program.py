@@ -9,8 +9,9 @@ import time
 from pathlib import Path
 from tempfile import TemporaryFile
 
-from desk.bench import Bench, Trouble
+from desk.bench import Bench
 from desk.cases import Outcome, case, outcome
+from desk.complaints import Trouble
 
 ROOT = Path(__file__).resolve().parent.parent
 PROGRAM = "replay"
@@ -93,8 +94,10 @@ def prove() -> None:
 
 
 def limited() -> None:
-    """Before a program runs: it may not write without end."""
-    resource.setrlimit(resource.RLIMIT_FSIZE, (MOST_SAID, MOST_SAID))
+    """Before a program runs: it may not write without end, and no more than its caller may."""
+    hard = resource.getrlimit(resource.RLIMIT_FSIZE)[1]
+    most = MOST_SAID if hard == resource.RLIM_INFINITY else min(MOST_SAID, hard)
+    resource.setrlimit(resource.RLIMIT_FSIZE, (most, most))
 
 
 def step(command: list[str], word: int, bench: Bench) -> Outcome:

@@ -10,9 +10,10 @@ import struct
 import tomllib
 from typing import Any, NoReturn
 
-from desk.bench import PAGE, PREDICATES, SCALARS, VECTORS, Area, BadInput, Bench, Script, Step
+from desk.bench import PAGE, PREDICATES, RIGHTS, SCALARS, VECTORS, Area, Bench, Script, Step
 from desk.cases import MOST_AREA_BYTES, MOST_PREDICATE_BYTES, MOST_RIGHTS, MOST_VECTOR_BYTES
-from desk.keys import Table, brief, kind, one_line
+from desk.complaints import BadInput, brief, one_line, reason
+from desk.keys import Table, kind
 
 MOST_VL = min(MOST_VECTOR_BYTES * 8 // VECTORS, MOST_PREDICATE_BYTES * 64 // PREDICATES)
 MOST_64 = 2**64 - 1
@@ -22,8 +23,6 @@ SECONDS = 30
 ROOM = ", for which the program has room"
 SWITCHES = ("simd", "sve", "f64mm")
 CONTENTS = ("hex", "text", "doubles", "singles", "file")
-# rights by name; a number is the rights byte itself
-RIGHTS = {"read": 1, "none": 0}
 WORD = re.compile("(0[xX])?[0-9A-Fa-f]{8}")
 
 
@@ -80,11 +79,6 @@ def finite(text: str) -> float:
     if math.isinf(value) and "inf" not in text:
         raise OverflowError(f"{brief(text)} is over what a double holds")
     return value
-
-
-def reason(error: Exception) -> str:
-    """Why a file could not be had, in the system's words."""
-    return getattr(error, "strerror", None) or str(error)
 
 
 def registers(table: Table, letter: str, count: int) -> list[tuple[int, str]]:

@@ -1,7 +1,6 @@
 """A script's steps as text for a person: colours on a terminal, plain elsewhere."""
 
-from desk.bench import Area, Script
-from desk.reading import RIGHTS
+from desk.bench import RIGHTS, Area, Script
 from desk.telling import NO_TEXT, Told, digits, float_text, shows_floats
 from desk.words import Shown
 

@@ -1,9 +1,9 @@
 """A word as assembler text, spelt as binutils spells it, with what its text names. For showing alone: what a word does, and whether
-it is a load at all, is the proved program's answer. The gate holds every text to the 38,000 lines of binutils in crates/binutils/stdin."""
+it is a load at all, is the proved program's answer. The gate holds these texts to the 38,000 lines of binutils in crates/binutils/stdin."""
 
 from dataclasses import dataclass
 
-# The family rows of document 01; a letter stands for a bit of its field.
+# The family rows of document 01; a letter stands for a bit of its field. LD1R's have L = 1 and S = 0, since its others are undefined.
 ROWS = {
     "ld1r": "0q001101 0 1 0 00000 110 0 ss nnnnn ttttt",
     "ld1r post": "0q001101 1 1 0 mmmmm 110 0 ss nnnnn ttttt",
@@ -16,8 +16,8 @@ ROWS = {
     "ld1ro reg": "1010010 ss 01 mmmmm 000 ggg nnnnn ttttt",
 }
 
-# dtype's sixteen rows: memory size, lane size, sign
-DTYPES = """b>b b>h b>s b>d sw>d h>h h>s h>d sh>d sh>s w>s w>d sb>d sb>s sb>h d>d""".split()
+# dtype's sixteen rows: memory size as a mnemonic has it, with s before it for sign extension, and lane size
+DTYPES = "b>b b>h b>s b>d sw>d h>h h>s h>d sh>d sh>s w>s w>d sb>d sb>s sb>h d>d".split()
 
 # a size's letter, as a lane and as a mnemonic has it
 LANES = "bhsd"
@@ -68,10 +68,11 @@ def signed(field: int) -> int:
 
 def sizes(f: dict[str, int]) -> tuple[str, str]:
     """The memory size as a mnemonic has it, and the letter of the lane size."""
-    if "d" in f or "a" in f:
-        memory, lane = DTYPES[f["d"] if "d" in f else f["a"] << 2 | f["b"]].split(">")
-        return memory, lane
-    return SIZES[f["s"]], LANES[f["s"]]
+    if "s" in f:
+        return SIZES[f["s"]], LANES[f["s"]]
+    dtype = f["d"] if "d" in f else f["a"] << 2 | f["b"]
+    memory, lane = DTYPES[dtype].split(">")
+    return memory, lane
 
 
 def address(family: str, f: dict[str, int], memory: str) -> str:

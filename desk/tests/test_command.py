@@ -7,7 +7,9 @@ import struct
 import subprocess
 import sys
 import unittest
+from pathlib import Path
 
+from desk.command import put_whole
 from desk.telling import ANSWERS, digits, float_text
 from desk.tests.common import BY_SECOND, ROOT, Benches, kj, toml
 
@@ -154,8 +156,37 @@ class Showing(Benches):
         counter = 96 + 32 * 16 + 16 * 2 + 32 * 8
         self.assertEqual((data[counter : counter + 8], data[first + counter : first + counter + 8]), (bytes(8), bytes([4]) + bytes(7)))
         self.assertEqual([path.name for path in self.folder.iterdir() if path.name != "bench.toml"], ["out"])
-        ran = kj(*BY_SECOND, "--cases", str(self.folder / "no" / "out"), self.write(toml()))
+        self.assertEqual(self.written_to(out).returncode, 0, "a second time")
+        ran = self.written_to(self.folder / "no" / "out")
         self.assertEqual((ran.returncode, ran.stderr), (2, f"kj: {self.folder}/no/out: cannot be written: No such file or directory\n"))
+
+    def written_to(self, out: Path) -> subprocess.CompletedProcess:
+        return kj(*BY_SECOND, "--cases", str(out), self.write(toml()))
+
+    def test_cases_into_what_is_no_plain_file(self) -> None:
+        """A device stays one, a link stays a link to its file, and a file that is in the way stays."""
+        device, link, file = self.folder / "device", self.folder / "link", self.folder / "file"
+        device.symlink_to("/dev/null")
+        self.assertEqual(self.written_to(device).returncode, 0)
+        self.assertEqual(os.readlink(device), "/dev/null")
+        link.symlink_to(file)
+        self.assertEqual(self.written_to(link).returncode, 0)
+        self.assertEqual((os.readlink(link), file.read_bytes()[:4]), (str(file), b"KKJ1"))
+        (self.folder / "file.part").write_text("mine")
+        ran = self.written_to(file)
+        self.assertEqual((ran.returncode, ran.stderr), (2, f"kj: {file}: cannot be written: File exists\n"))
+        self.assertEqual((self.folder / "file.part").read_text(), "mine")
+
+    def test_nothing_is_left_of_a_file_that_could_not_be_put_in_place(self) -> None:
+        with self.assertRaises(OSError):
+            put_whole(str(self.folder), b"cases")
+        self.assertFalse(os.path.exists(f"{self.folder}.part"))
+
+    def test_cases_where_there_is_no_room(self) -> None:
+        full = self.folder / "full"
+        full.symlink_to("/dev/full")
+        ran = self.written_to(full)
+        self.assertEqual((ran.returncode, ran.stderr), (2, f"kj: {full}: cannot be written: No space left on device\n"))
 
     def test_help(self) -> None:
         ran = kj("--help")

@@ -6,7 +6,7 @@ import time
 import unittest
 
 from desk import reading
-from desk.bench import BadInput
+from desk.complaints import BadInput
 from desk.reading import read
 from desk.tests.common import Benches, kj, toml
 

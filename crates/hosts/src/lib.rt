@@ -31,7 +31,7 @@ fn numbered(result: StepResult) -> Told
     }
 }
 
-// One step. What a host may write to it lends first; every slice is a pointer and a length.
+// One step. What it may write is lent first, and RAM beside that; each slice is a pointer and a length.
 #[no_mangle]
 pub extern "C" fn kjolvast_step(
     z: &mut [u8],
