@@ -73,12 +73,21 @@ fn ends(start: Address, n: usize) -> bool
     n as u64 <= 18446744073709551615 - first + 1
 }
 
-// Whether one area is taken by itself: its limit, rights, start and end. The pages begun are counted so that no sum wraps.
+// Whether one area is taken by itself: its limit, rights, start and end. Within the limit the pages begun are counted in a sum that
+// does not wrap.
 fn area_taken(start: Address, n: usize, rights: usize) -> bool
     ensures { λ r. ⌜ r ≡ areaTaken (start .0) n rights ⌝ }
 {
-    let pages = n / 4096 + (n % 4096 + 4095) / 4096;
-    (n <= 65536) & (rights == pages) & (start.0 % 4096 == 0) & ends(start, n)
+    if 65536 < n {
+        return false;
+    }
+    if rights != (n + 4095) / 4096 {
+        return false;
+    }
+    if start.0 % 4096 != 0 {
+        return false;
+    }
+    ends(start, n)
 }
 
 // Whether n bytes from start on end at another start or below it.
@@ -99,16 +108,22 @@ fn share_none(map: Map, nf: usize, nr: usize) -> bool
 {
     let flash = map.flash;
     let ram = map.ram;
-    before(flash, nf, ram) | before(ram, nr, flash) | (nf == 0) | (nr == 0)
+    if before(flash, nf, ram) {
+        return true;
+    }
+    before(ram, nr, flash) | (nf == 0) | (nr == 0)
 }
 
 // Whether the areas are taken.
 pub fn taken(map: Map, flash: &[u8], flash_rights: &[u8], ram: &[u8], ram_rights: &[u8]) -> bool
     ensures { λ r. ⌜ r ≡ areasTaken (areasOf map (now (flash .entry)) (now («flash_rights» .entry)) (now (ram .entry)) (now («ram_rights» .entry))) ⌝ }
 {
-    area_taken(map.flash, flash.len(), flash_rights.len())
-        & area_taken(map.ram, ram.len(), ram_rights.len())
-        & share_none(map, flash.len(), ram.len())
+    if area_taken(map.flash, flash.len(), flash_rights.len()) {
+        if area_taken(map.ram, ram.len(), ram_rights.len()) {
+            return share_none(map, flash.len(), ram.len());
+        }
+    }
+    false
 }
 
 // Whether an area of n bytes from start on holds an address.

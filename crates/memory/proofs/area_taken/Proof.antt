@@ -1,27 +1,18 @@
--- `area_taken` meets its contract: its four tests are the definition's, with the pages begun counted in another way.
-use mathlib.Core.Path.{_≡_}
-use Prim.Native.Nat.{_+_, _/_, _%_}
-use native.Mathlib.Omega.{arith}
+-- `area_taken` meets its contract: it makes the definition's four tests one after the other, and the first that fails decides.
+use mathlib.Core.Path.{sym, _∙_}
 use borrow.Author.Needs.{needs}
+use borrow.Author.Tests.{le-leb, lt-leb, eq-eqb, ne-eqb}
 use Rattle.memory.specs.Areas.{areaTaken}
 use Rattle.memory.proofs.area_taken.Statement.{statement}
 use Rattle.memory.proofs.area_taken.Tie as tie
 
-add-pages : tie.Need-add-pages
-add-pages c = search needs
-
-add-pages-2 : tie.Need-add-pages-2
-add-pages-2 c = search needs
-
-ends-requires : tie.Need-ends-requires
-ends-requires c κs = search needs
-
-returns : tie.Need-returns
-unfolding areaTaken
-returns c =
-    let n = c .before .before .args .n in
-    let pages : n / 4096 + (n % 4096 + 4095) / 4096 ≡ (n + 4095) / 4096 = omega arith in
-    rw (pages, c .ends .ensures)
-
 pub area-taken-spec : {M : Type 1} → statement M
-area-taken-spec = tie.close (tie.spec add-pages add-pages-2 ends-requires returns)
+unfolding areaTaken
+area-taken-spec =
+    tie.close (tie.spec
+    (λ c. rw (lt-leb _ _ (c .if1 .taken)))
+    (λ c. search needs)
+    (λ c. rw (le-leb _ _ (c .before .if1 .left), ne-eqb _ _ (c .if2 .taken)))
+    (λ c. rw (le-leb _ _ (c .before .before .before .if1 .left), eq-eqb _ _ (c .before .before .if2 .left), ne-eqb _ _ (c .if3 .taken)))
+    (λ c κs. tt)
+    (λ c. c .ends .ensures ∙ rw (le-leb _ _ (c .before .before .before .before .if1 .left), eq-eqb _ _ (c .before .before .before .if2 .left), eq-eqb _ _ (c .before .if3 .left))))
