@@ -12,6 +12,7 @@ use Rattle.words.specs.declared.Insn.{Insn}
 use Rattle.words.proofs.Ranges.{InsnInRange, InRange, in-range}
 use Rattle.loads.specs.Benches.{lengthAllowed}
 use Rattle.loads.specs.Answers.{numberOf}
+use Rattle.loads.specs.Plans.{planOf}
 use Rattle.loads.specs.Sounds.{Sound}
 use Rattle.loads.specs.Steps.{isWide, switchedOn, refusals, plannedLoad, plannedBy, planned}
 use Rattle.loads.specs.declared.Answer.{Answer}
@@ -35,25 +36,29 @@ pub not-allowed : (s : Settings) (x : List ℕ) (w : ℕ) → lengthAllowed (s .
 unfolding plannedFor
 not-allowed s x w h = (SetUp, rw h, refl)
 
--- a plan, where there is one, is sound
-abbrev Sounds : Planned → Type 0
-Sounds (Stop a) = Unit {0}
-Sounds (Go p) = Sound p
+-- a fact of the plan of every load that is not refused holds of the plan of every word that has one
+abbrev Holding : (Plan → Type 0) → Planned → Type 0
+Holding P (Stop a) = Unit {0}
+Holding P (Go p) = P p
 
-module _ (s : Settings) (x : List ℕ) (least : 128 ≤ s .vl) (most : s .vl ≤ 2048) where
-  load-sounds : (i : Insn) → InsnInRange i → Sounds (plannedLoad s x i)
+module _ (s : Settings) (x : List ℕ) (P : Plan → Type 0) (each : (i : Insn) → InsnInRange i → (isWide i && ltb (s .vl) 256) ≡ false → P (planOf (s .vl) x i)) where
+  of-load : (i : Insn) → InsnInRange i → Holding P (plannedLoad s x i)
   unfolding plannedLoad refusals
-  load-sounds i h =
-      if-cases Sounds (isWide i && not (s .f64mm)) _ _ (λ _. tt)
+  of-load i h =
+      if-cases (Holding P) (isWide i && not (s .f64mm)) _ _ (λ _. tt)
       (λ _.
-      if-cases Sounds (not (switchedOn s i)) _ _ (λ _. tt)
-      (λ _. if-cases Sounds (isWide i && ltb (s .vl) 256) _ _ (λ _. tt) (λ _. sound (s .vl) x least most i h)))
+      if-cases (Holding P) (not (switchedOn s i)) _ _ (λ _. tt)
+      (λ _. if-cases (Holding P) (isWide i && ltb (s .vl) 256) _ _ (λ _. tt) (λ long. each i h long)))
 
-  by-sounds : (d : Decoded) → InRange d → Sounds (plannedBy s x d)
-  by-sounds Outside h = tt
-  by-sounds Undefined h = tt
-  by-sounds (Is i) h = load-sounds i h
+  of-word : (d : Decoded) → InRange d → Holding P (plannedBy s x d)
+  of-word Outside h = tt
+  of-word Undefined h = tt
+  of-word (Is i) h = of-load i h
 
-  pub planned-sound : (w : ℕ) (p : Plan) → planned s x w ≡ Go p → Sound p
+  pub planned-each : (w : ℕ) (p : Plan) → planned s x w ≡ Go p → P p
   unfolding planned
-  planned-sound w p e = subst Sounds e (by-sounds (readOf w) (in-range w))
+  planned-each w p e = subst (Holding P) e (of-word (readOf w) (in-range w))
+
+-- a plan, where there is one, is sound
+pub planned-sound : (s : Settings) (x : List ℕ) → 128 ≤ s .vl → s .vl ≤ 2048 → (w : ℕ) (p : Plan) → planned s x w ≡ Go p → Sound p
+planned-sound s x least most = planned-each s x Sound (λ i h _. sound (s .vl) x least most i h)

@@ -1,2 +1,3 @@
--- What `prepare` promises.
+-- What `prepare` promises, and what its plans are.
 pub mod Prepares
+pub mod Shapes

@@ -1,0 +1,18 @@
+-- What every plan is, beyond `Sound`, in a register of n bytes: one element for all its lanes, or one for each of the first ones; and the
+-- lanes that are not copies of others are whole chunks of eight bytes. This file serves proofs alone: what a load does is `planOf` of loads.
+use Prim.Native.Nat.{ℕ, _*_, _%_, _≤_, _<_}
+use mathlib.Core.Path.{_≡_}
+use mathlib.Core.Bool.{false}
+use Rattle.ground.specs.Sizes.{bytesOf}
+use Rattle.loads.specs.declared.Plan.{Plan}
+use Rattle.loads.specs.declared.Rule.{Rule}
+use Rattle.loads.specs.declared.Rule.the-variants.{Always, LaneBit, ElementBit}
+
+abbrev pub shapedBy : Rule → Plan → Type 0
+shapedBy Always p = (p .elements ≡ 1) × (8 ≤ p .filled * bytesOf (p .lane)) × (p .lane ≡ p .size) × (p .signed ≡ false)
+shapedBy LaneBit p = (p .elements ≡ 1) × (0 < p .filled) × (p .filled * bytesOf (p .lane) % 8 ≡ 0)
+shapedBy ElementBit p = (p .elements ≤ p .filled) × (p .elements * bytesOf (p .lane) % 8 ≡ 0)
+
+pub record Shaped (p : Plan) (n : ℕ) : Type 0 where
+  pub room : p .filled * bytesOf (p .lane) ≤ n
+  pub shape : shapedBy (p .rule) p
