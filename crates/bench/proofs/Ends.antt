@@ -1,16 +1,19 @@
 -- How an accepted set-up ends, from what the functions of the step found: at the stack rule, at a bad byte, or with the load done.
 use mathlib.Core.Path.{_≡_, refl, sym, ap, _∙_}
 use mathlib.Core.Bool.{Bool, true, false, _&&_}
-use mathlib.Core.List.{List}
-use Prim.Native.Nat.{ℕ, _+_, _-_, _*_, _/_}
+use mathlib.Core.List.{List, _++_}
+use mathlib.Core.Logic.{⊎-elim}
+use Prim.Native.Nat.{ℕ, _+_, _-_, _*_, _/_, _≤_}
 use native.Mathlib.Omega.{arith}
 use borrow.Author.Tests.{eq-eqb, ne-eqb}
 use lib.Dec.{eqb}
-use lib.ListN.{length, take, drop}
+use lib.ListN.{length, take, drop, take-append-drop}
 use Rattle.ground.specs.Choices.{if_then_else_}
 use Rattle.ground.specs.Lists.{replaced}
-use Rattle.ground.proofs.Laws.{all-of}
+use Rattle.ground.proofs.Fills.{back-in, part-length}
+use Rattle.ground.proofs.Laws.{true-or-false, all-of}
 use Rattle.memory.specs.Areas.{areasTaken}
+use Rattle.memory.specs.declared.Reading.{Reading}
 use Rattle.loads.specs.Benches.{Lent, Bench, areas, acceptedTests, accepted}
 use Rattle.loads.specs.Answers.{numberOf, reportOf}
 use Rattle.loads.specs.Lanes.{governing}
@@ -26,6 +29,7 @@ use Rattle.plans.specs.Prepares.{plannedFor}
 use Rattle.plans.proofs.Prepares.{allowed-planned}
 use Rattle.bench.specs.Lends.{benchOf}
 use Rattle.bench.specs.Inside.{filesTaken, stacked, EndsAs}
+use Rattle.bench.specs.Roads.{Loaded, Targeted}
 
 -- the predicate's part that is lent is the governing register
 pub governed : (l : Lent) (p : Plan)
@@ -36,22 +40,40 @@ governed l p =
     let k : p .pg * n + n - p .pg * n ≡ n = omega arith in
     rw k
 
+-- a load into a register, in the vector file that the register is lent out of
+pub targeted : (answer : ℕ → Reading) (p : Plan) (pred z : List ℕ) (n : ℕ) → p .target * n + n ≤ length z → {ys : List ℕ} {r : StepResult}
+    → (let a = p .target * n in Loaded answer p pred (take (a + n - a) (drop a z)) r ys → Targeted answer p pred n z r (take a z ++ (ys ++ drop (a + n - a) (drop a z))))
+targeted answer p pred z n fits {ys} {r} s =
+    record {
+      report = s .report;
+      vectors = ⊎-elim
+          (λ t. rw t (back-in z ys _ a n (rw (t, part-length z a n fits) at (s .register))))
+          (λ t. let kept = rw t at (s .register) in rw (t, kept, take-append-drop, take-append-drop))
+          (true-or-false (eqb (numberOf (r .answer)) 0));
+    }
+  where
+    a : ℕ
+    a = p .target * n
+
 -- a plan, from what was found of that part
 module _ (l : Lent) (b : Bench) (p : Plan) (pred : List ℕ) (e : pred ≡ governing l p) where
   pub at-stack : stackFails (b .scalars) p pred ≡ true → (r : StepResult) → r ≡ record { count = 0; answer = Stack } → EndsAs (stacked p) l b r b
   unfolding EndsAs stacked
   at-stack h r q = rw (rw e at h) (rw q)
 
-  module _ (h : stackFails (b .scalars) p pred ≡ false) (r : StepResult) (found : reportOf r ≡ surveyOf (answersOf l b p) p pred) where
-    pub faulted : (numberOf (r .answer) ≡ 0 → ⊥) → EndsAs (stacked p) l b r b
+  module _ (h : stackFails (b .scalars) p pred ≡ false) (r : StepResult) (z : List ℕ)
+      (t : Targeted (answersOf l b p) p pred (l .settings .vl / 8) (b .vectors) r z) where
+    pub faulted : (numberOf (r .answer) ≡ 0 → ⊥) → EndsAs (stacked p) l b r (benchOf z (b .scalars) (b .ram))
     unfolding EndsAs stacked outcomeOf
-    faulted ne = rw (rw e at h) (rw (← (rw e at found), ne-eqb _ 0 ne))
+    faulted ne =
+        let kept : z ≡ b .vectors = rw (ne-eqb _ 0 ne) at (t .vectors) in
+        rw (kept, rw e at h) (rw (← (rw e at (t .report)), ne-eqb _ 0 ne))
 
-    pub ran : numberOf (r .answer) ≡ 0 → (z x : List ℕ)
-        → (let n = l .settings .vl / 8 in z ≡ replaced (b .vectors) (p .target * n) n (registerOf (answersOf l b p) p pred n))
-        → x ≡ scalarsAfter p (b .scalars) → EndsAs (stacked p) l b r (benchOf z x (b .ram))
+    pub ran : numberOf (r .answer) ≡ 0 → (x : List ℕ) → x ≡ scalarsAfter p (b .scalars) → EndsAs (stacked p) l b r (benchOf z x (b .ram))
     unfolding EndsAs stacked outcomeOf benchAfter
-    ran q z x filled written = rw (rw e at h) (rw (← (rw e at found), eq-eqb _ 0 q, filled, written, e))
+    ran q x written =
+        let filled = rw (eq-eqb _ 0 q) at (t .vectors) in
+        rw (rw e at h) (rw (← (rw e at (t .report)), eq-eqb _ 0 q, filled, written, e))
 
 either : (t : Bool) (b : Bench) → b ≡ (if t then b else b)
 either true b = refl

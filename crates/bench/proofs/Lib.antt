@@ -4,3 +4,10 @@ pub mod Rules
 pub mod Turns
 pub mod Digits
 pub mod Ends
+pub mod Copies
+pub mod Together
+pub mod Counts
+pub mod Lanes
+pub mod Registers
+pub mod Nothing
+pub mod Alike

@@ -8,12 +8,12 @@ use memory::Reading;
 ghost use mathlib.Core.Path.{_≡_};
 ghost use Prim.Native.Nat.{_+_, _-_, _*_, _%_, _^_, _≤_, _<_};
 ghost use lib.ListN.{length};
-ghost use Rattle.ground.specs.Lists.{replaced};
 ghost use Rattle.ground.specs.Sizes.{bytesOf};
 ghost use Rattle.memory.specs.Addresses.{wrap};
 ghost use Rattle.memory.specs.Areas.{areasOf};
 ghost use Rattle.loads.specs.Outcomes.{answersIn, valueOf, extended, laneValue, registerOf, baseAfter, scalarsAfter};
 ghost use Rattle.loads.specs.Sounds.{Sound};
+ghost use Rattle.bench.specs.Quick.{Zeroed};
 
 // The largest number of a size.
 fn largest(size: Size) -> u64
@@ -91,8 +91,8 @@ fn lane_value(
     0
 }
 
-// Fills a destination register of whole lanes, each lane's element read once.
-fn fill(
+// Fills a destination register of whole lanes, each lane's element read by itself.
+pub(crate) fn fill(
     dst: &mut [u8],
     map: Map,
     flash: &[u8],
@@ -128,34 +128,16 @@ fn fill(
     }
 }
 
-// Fills the plan's target, a middle part of a vector file of 32 registers of n bytes, lent on to be written.
-pub(crate) fn target(
-    z: &mut [u8],
-    n: usize,
-    map: Map,
-    flash: &[u8],
-    flash_rights: &[u8],
-    ram: &[u8],
-    ram_rights: &[u8],
-    pred: &[u8],
-    plan: Plan,
-)
-    requires { ⌜ Sound plan ⌝ }
-    requires { ⌜ (n ≤ 256) × (n % 8 ≡ 0) × (length (now z) ≡ 32 * n) ⌝ }
-    ensures { λ _. ⌜ now (z .exit) ≡ replaced (now (z .entry)) (plan .target * n) n (registerOf (answersIn (areasOf map (now (flash .entry)) (now («flash_rights» .entry)) (now (ram .entry)) (now («ram_rights» .entry))) plan) plan (now (pred .entry)) n) ⌝ }
+// Zeros from a place on.
+pub(crate) fn zeros(dst: &mut [u8], from: usize)
+    ensures { λ _. ⌜ Zeroed (now (dst .entry)) (now (dst .exit)) from ⌝ }
 {
-    let at = plan.target as usize * n;
-    let end = at + n;
-    fill(
-        &mut z[at..end],
-        map,
-        flash,
-        flash_rights,
-        ram,
-        ram_rights,
-        pred,
-        plan,
-    );
+    let n = dst.len();
+    let mut i = from;
+    while i < n {
+        dst[i] = 0;
+        i += 1;
+    }
 }
 
 // Writes the base back where the plan says so.

@@ -1,7 +1,11 @@
 // One step of the bench: any word and any lent registers, predicates and memory, wrong sizes too, to one numbered answer.
 mod actives;
+mod chunks;
 mod fills;
+mod quick;
 mod reads;
+mod roads;
+mod stretches;
 
 use loads::Answer;
 use loads::Plan;
@@ -11,9 +15,11 @@ use loads::StepResult;
 use memory::Map;
 ghost use mathlib.Core.Path.{_≡_};
 ghost use mathlib.Core.Bool.{true};
+ghost use Prim.Native.Nat.{_/_};
 ghost use Rattle.loads.specs.Benches.{accepted};
 ghost use Rattle.loads.specs.Sounds.{Sound};
 ghost use Rattle.loads.specs.Steps.{prepared, StepPromise};
+ghost use Rattle.plans.specs.Shapes.{Shaped};
 ghost use Rattle.loads.specs.declared.StepResult.{StepResult};
 ghost use Rattle.bench.specs.Lends.{lentOf, benchOf};
 ghost use Rattle.bench.specs.Inside.{filesTaken, stacked, EndsAs};
@@ -37,22 +43,22 @@ fn files_taken(vl: u64, z: usize, p: usize, x: usize) -> bool
     false
 }
 
-// Carries a plan out: the stack rule, then a survey that only reads, and only where that is clear the destination, the base
-// and PC. The governing predicate's part is taken here, once.
-fn carry(
+// Carries a plan out: the stack rule, then the load, and where that ran the base and PC. The governing predicate's part is taken here,
+// once.
+fn carry<'a>(
     z: &mut [u8],
     x: &mut [u64],
-    ram: &[u8],
+    ram: &'a [u8],
     settings: Settings,
     p: &[u8],
     map: Map,
-    flash: &[u8],
+    flash: &'a [u8],
     flash_rights: &[u8],
     ram_rights: &[u8],
     plan: Plan,
 ) -> StepResult
     requires { ⌜ accepted (lentOf settings (now p) map (now flash) (now «flash_rights») (now «ram_rights»)) (benchOf (now z) (now x) (now ram)) ≡ true ⌝ }
-    requires { ⌜ Sound plan ⌝ }
+    requires { ⌜ (Sound plan) × Shaped plan (settings .vl / 8) ⌝ }
     ensures { λ r. ⌜ EndsAs (stacked plan) (lentOf settings (now (p .entry)) map (now (flash .entry)) (now («flash_rights» .entry)) (now («ram_rights» .entry))) (benchOf (now (z .entry)) (now (x .entry)) (now (ram .entry))) r (benchOf (now (z .exit)) (now (x .exit)) (now (ram .entry))) ⌝ }
 {
     let k = (settings.vl / 64) as usize;
@@ -62,11 +68,10 @@ fn carry(
     if actives::stack_fails(x, pred, plan) {
         return ended(0, Answer::Stack);
     }
-    let found = reads::survey(map, flash, flash_rights, ram, ram_rights, pred, plan);
+    let n = (settings.vl / 8) as usize;
+    let found = roads::target(z, n, map, flash, flash_rights, ram, ram_rights, pred, plan);
     let answer = found.answer;
     if answer.number() == 0 {
-        let n = (settings.vl / 8) as usize;
-        fills::target(z, n, map, flash, flash_rights, ram, ram_rights, pred, plan);
         fills::scalars(x, plan);
         return found;
     }
@@ -74,15 +79,15 @@ fn carry(
 }
 
 // A step of an accepted set-up: what stops the word, or what its plan does.
-fn accepted_step(
+fn accepted_step<'a>(
     z: &mut [u8],
     x: &mut [u64],
-    ram: &[u8],
+    ram: &'a [u8],
     word: u32,
     settings: Settings,
     p: &[u8],
     map: Map,
-    flash: &[u8],
+    flash: &'a [u8],
     flash_rights: &[u8],
     ram_rights: &[u8],
 ) -> StepResult
@@ -109,34 +114,35 @@ fn accepted_step(
 }
 
 // One step. The vector file and the scalars are lent to be written, and RAM beside them; no load changes it.
-pub fn step(
+pub fn step<'a>(
     z: &mut [u8],
     x: &mut [u64],
-    ram: &[u8],
+    ram: &'a [u8],
     word: u32,
     settings: Settings,
     p: &[u8],
     map: Map,
-    flash: &[u8],
+    flash: &'a [u8],
     flash_rights: &[u8],
     ram_rights: &[u8],
 ) -> StepResult
     ensures { λ r. ⌜ (let l = lentOf settings (now (p .entry)) map (now (flash .entry)) (now («flash_rights» .entry)) (now («ram_rights» .entry)) in StepPromise l word (benchOf (now (z .entry)) (now (x .entry)) (now (ram .entry))) r l (benchOf (now (z .exit)) (now (x .exit)) (now (ram .entry)))) ⌝ }
 {
-    let files = files_taken(settings.vl, z.len(), p.len(), x.len());
-    if files & memory::taken(map, flash, flash_rights, ram, ram_rights) {
-        return accepted_step(
-            z,
-            x,
-            ram,
-            word,
-            settings,
-            p,
-            map,
-            flash,
-            flash_rights,
-            ram_rights,
-        );
+    if files_taken(settings.vl, z.len(), p.len(), x.len()) {
+        if memory::taken(map, flash, flash_rights, ram, ram_rights) {
+            return accepted_step(
+                z,
+                x,
+                ram,
+                word,
+                settings,
+                p,
+                map,
+                flash,
+                flash_rights,
+                ram_rights,
+            );
+        }
     }
     ended(0, Answer::SetUp)
 }

@@ -33,10 +33,10 @@ fn numbered(result: StepResult) -> Told
 
 // One step. What it may write is lent first, and RAM beside that; each slice is a pointer and a length.
 #[no_mangle]
-pub extern "C" fn kjolvast_step(
+pub extern "C" fn kjolvast_step<'a>(
     z: &mut [u8],
     x: &mut [u64],
-    ram: &[u8],
+    ram: &'a [u8],
     word: u32,
     vl: u64,
     simd: bool,
@@ -45,7 +45,7 @@ pub extern "C" fn kjolvast_step(
     p: &[u8],
     flash_start: u64,
     ram_start: u64,
-    flash: &[u8],
+    flash: &'a [u8],
     flash_rights: &[u8],
     ram_rights: &[u8],
 ) -> Told

@@ -24,7 +24,14 @@ fn line(word: Text, setup: &[u8], says: &[u8], came: Text) {
 }
 
 // Runs a row and writes its line. The verdict is whether the text of what came is what document 01 says.
-fn reading(tally: Tally, row: Row, setup: &[u8], says: &[u8], flash: &[u8], ram: &[u8]) -> Tally {
+fn reading<'a>(
+    tally: Tally,
+    row: Row,
+    setup: &[u8],
+    says: &[u8],
+    flash: &'a [u8],
+    ram: &'a [u8],
+) -> Tally {
     let came = setups::stepped(row, part(flash, row.flash), part(ram, row.ram));
     line(Text::word(row.word), setup, says, came);
     let rows = std::num::wrapping_add_u64(tally.rows, 1);
@@ -43,12 +50,12 @@ fn reading(tally: Tally, row: Row, setup: &[u8], says: &[u8], flash: &[u8], ram:
 }
 
 // A word that document 01 says is refused at any set-up, with its answer.
-fn refusal(tally: Tally, word: u32, says: &[u8], flash: &[u8], ram: &[u8]) -> Tally {
+fn refusal<'a>(tally: Tally, word: u32, says: &[u8], flash: &'a [u8], ram: &'a [u8]) -> Tally {
     reading(tally, rows::refused(word), b"VL 256", says, flash, ram)
 }
 
 // The rows of the table, in its order.
-fn table(flash: &[u8], ram: &[u8]) -> Tally {
+fn table<'a>(flash: &'a [u8], ram: &'a [u8]) -> Tally {
     let none = Tally {
         as_said: 0,
         rows: 0,
@@ -73,7 +80,7 @@ fn table(flash: &[u8], ram: &[u8]) -> Tally {
 }
 
 // The sentence below the table: the limits of an area and of the vector length.
-fn limits(so_far: Tally, flash: &[u8], ram: &[u8]) -> Tally {
+fn limits<'a>(so_far: Tally, flash: &'a [u8], ram: &'a [u8]) -> Tally {
     let area = b"taken: ran, count 1; lane 0 at X0, rest zero";
     let vector = b"taken: 16 copies of the 16 bytes at X0";
     let no = b"answer 1";

@@ -76,13 +76,13 @@ pub(crate) fn ram_start(n: usize) -> Address {
 }
 
 // Lends what a row asks and steps: flash at 0, RAM at the end, every page readable but for flash's page 1 where the row says so.
-fn lent(
+fn lent<'a>(
     row: Row,
     z: &mut [u8],
     x: &mut [u64; 33],
     p: &[u8],
-    flash: &[u8],
-    ram: &[u8],
+    flash: &'a [u8],
+    ram: &'a [u8],
 ) -> StepResult {
     let mut rights = [0xff; 17];
     rights[1] = row.page1;
@@ -136,7 +136,7 @@ fn others_kept(now: &[u64; 33], before: &[u64; 33]) -> bool {
 }
 
 // Steps over a file that is cut to the row's vector length, and tells what came.
-fn carried(row: Row, z: &mut [u8], before: &[u8], flash: &[u8], ram: &[u8]) -> Text {
+fn carried<'a>(row: Row, z: &mut [u8], before: &[u8], flash: &'a [u8], ram: &'a [u8]) -> Text {
     let register = row.vl as usize / 8;
     let nz = least(32 * register, z.len());
     let mut x = scalars(row.x0);
@@ -169,7 +169,7 @@ fn file(vl: u32) -> [u8; 8704] {
 }
 
 // Sets a row up, steps, and tells what came.
-pub(crate) fn stepped(row: Row, flash: &[u8], ram: &[u8]) -> Text {
+pub(crate) fn stepped<'a>(row: Row, flash: &'a [u8], ram: &'a [u8]) -> Text {
     let mut z = file(row.vl);
     let before = z;
     carried(row, &mut z, &before, flash, ram)

@@ -1,7 +1,8 @@
--- `accepted_step` meets its contract: what was prepared is what is planned, and a plan that goes is sound.
+-- `accepted_step` meets its contract: what was prepared is what is planned, and a plan that goes is sound and shaped.
 use mathlib.Core.Path.{refl, _∙_}
 use Rattle.loads.proofs.Accepts.{accepted-exactly}
 use Rattle.plans.proofs.Prepares.{planned-sound}
+use Rattle.plans.proofs.Shapes.{planned-shaped}
 use Rattle.bench.proofs.Ends.{prepares, stops, goes}
 use Rattle.bench.proofs.accepted_step.Statement.{statement}
 use Rattle.bench.proofs.accepted_step.Tie as tie
@@ -12,7 +13,8 @@ accepted-step-spec =
     (λ c κs.
     let g = c .before .before .before .before .before .before .before .before .before .before .before .before .before .before in
     let a = accepted-exactly _ _ .0 (g .pre) in
-    (g .pre, planned-sound _ _ (a .least) (a .most) _ _ (prepares _ _ _ (g .pre) _ (c .before .before .before .before .before .prepare .ensures) ∙ c .before .before .before .plan .given .1)))
+    let e = (prepares _ _ _ (g .pre) _ (c .before .before .before .before .before .prepare .ensures) ∙ c .before .before .before .plan .given .1) in
+    (g .pre, (planned-sound _ _ (a .least) (a .most) _ _ e, planned-shaped _ _ (a .multiple) (a .least) _ _ e)))
     (λ c. refl)
     (λ c. stops _ _ _ _ (prepares _ _ _ (c .before .before .before .before .before .before .before .before .before .before .before .before .before .pre) _ (c .before .before .before .before .prepare .ensures) ∙ c .before .before .answer .given .1) _ (c .ended .ensures))
     (λ c. c .before .before .before .z .given) (λ c. c .before .x .given)

@@ -1,5 +1,7 @@
 -- `step` meets its contract, StepPromise: what the set-up is tested for is the definition's, and then the word decides.
-use mathlib.Core.Path.{_∙_}
+use mathlib.Core.Path.{refl, _∙_}
+use mathlib.Core.Logic.{⊎-elim}
+use Rattle.ground.proofs.Laws.{both}
 use Rattle.bench.proofs.Ends.{accepts, steps, set-up}
 use Rattle.bench.proofs.step.Statement.{statement}
 use Rattle.bench.proofs.step.Tie as tie
@@ -7,8 +9,14 @@ use Rattle.bench.proofs.step.Tie as tie
 pub step-spec : {M : Type 1} → statement M
 step-spec =
     tie.close (tie.spec (λ c κs. tt) (λ c κs. tt)
-    (λ c κs. accepts _ _ 0 _ _ (c .before .before .before .before .files-taken .ensures) (c .before .before .before .taken .ensures) ∙ c .before .before .if1 .taken)
+    (λ c κs. let t = c .before .before in accepts _ _ 0 _ _ (t .before .before .before .files-taken .ensures) (t .before .taken .ensures) ∙ both _ _ (t .before .before .if1 .taken) (t .if2 .taken))
     (λ c. c .before .before .before .z .given) (λ c. c .before .x .given)
-    (λ c. steps _ _ _ (accepts _ _ 0 _ _ (c .before .before .before .before .before .before .before .before .before .files-taken .ensures) (c .before .before .before .before .before .before .before .before .taken .ensures) ∙ c .before .before .before .before .before .before .before .if1 .taken) _ _ (c .before .before .before .before .accepted-step .ensures))
+    (λ c.
+    let t = c .before .before .before .before .before .before .before in
+    steps _ _ _ (accepts _ _ 0 _ _ (t .before .before .before .files-taken .ensures) (t .before .taken .ensures) ∙ both _ _ (t .before .before .if1 .taken) (t .if2 .taken)) _ _ (c .before .before .before .before .accepted-step .ensures))
     (λ c κs. tt)
-    (λ c. set-up _ _ _ (accepts _ _ 0 _ _ (c .before .before .before .files-taken .ensures) (c .before .before .taken .ensures) ∙ c .before .if1 .left) _ (c .ended .ensures)))
+    (λ c.
+    ⊎-elim
+    (λ w. set-up _ _ _ (accepts _ _ 0 _ _ (c .before .before .files-taken .ensures) (w .1 .ensures) ∙ rw (w .0 .taken, w .2 .left)) _ (c .ended .ensures))
+    (λ w. set-up _ _ _ (accepts _ _ 0 _ _ (c .before .before .files-taken .ensures) refl ∙ rw (w .left)) _ (c .ended .ensures))
+    (c .before .if1 .came)))

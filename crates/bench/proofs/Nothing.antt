@@ -1,0 +1,51 @@
+-- A load that ran and read nothing leaves zeros: a lane takes an element only where it is asked for.
+use mathlib.Core.Path.{_≡_, sym, ap, _∙_}
+use mathlib.Core.Bool.{true}
+use mathlib.Core.List.{List}
+use mathlib.Core.Logic.{⊎-elim}
+use Prim.Native.Nat.{ℕ, _+_, _/_, _%_, _<_, zero-le}
+use native.Mathlib.Nat.{zero-add, zero-div}
+use native.Mathlib.Omega.{arith}
+use lib.Dec.{ltb}
+use lib.ListN.{length}
+use Rattle.ground.specs.Lists.{listed, anyBelow}
+use Rattle.ground.specs.Sizes.{bytesOf}
+use Rattle.ground.proofs.Fills.{is-listed}
+use Rattle.ground.proofs.Laws.{never, off, any-of, listed-cong}
+use Rattle.memory.specs.Troubles.{Bad, nowhere, denied}
+use Rattle.memory.specs.declared.Reading.{Reading}
+use Rattle.loads.specs.Answers.{Report}
+use Rattle.loads.specs.Lanes.{wanted, asked, takes}
+use Rattle.loads.specs.Outcomes.{surveyOf, laneValue, registerByte, registerOf}
+use Rattle.loads.specs.declared.Plan.{Plan}
+use Rattle.loads.proofs.Apart.{taken-wanted}
+use Rattle.loads.proofs.Walks.{many, number, walk-clear, walk-stopped, clear-or-stopped}
+use Rattle.bench.specs.Quick.{Zeroed}
+use Rattle.bench.specs.Roads.{Ran}
+use Rattle.bench.proofs.Counts.{any-many}
+
+no-fault : (k : Bad) → number k ≡ 0 → ⊥
+no-fault nowhere e = omega arith
+no-fault denied e = omega arith
+
+module _ (answer : ℕ → Reading) (p : Plan) (pred : List ℕ) (some : 0 < p .elements) (r : Ran (surveyOf answer p pred) 0) where
+  none-many : many (wanted p pred) 0 (p .elements) ≡ 0
+  unfolding surveyOf asked
+  none-many =
+      ⊎-elim
+      (λ c. sym (zero-add _) ∙ sym (ap (λ (s : Report). s .count) (walk-clear (wanted p pred) answer 0 0 (p .elements) c)) ∙ r .counted)
+      (λ s. absurd (no-fault (s .kind) (sym (ap (λ (t : Report). t .number) (walk-stopped (wanted p pred) answer 0 0 (p .elements) s)) ∙ r .number)))
+      (clear-or-stopped (wanted p pred) answer 0 (p .elements))
+
+  none-wanted : (e : ℕ) → e < p .elements → wanted p pred e ≡ true → ⊥
+  none-wanted e h t = never (any-of (wanted p pred) (p .elements) e h t) (sym (any-many (wanted p pred) (p .elements)) ∙ ap (ltb 0) none-many)
+
+  none-lane : (l : ℕ) → laneValue answer p pred l ≡ 0
+  unfolding laneValue
+  none-lane l = rw (off (takes p pred l) (λ t. let w = taken-wanted answer answer p pred some l t in none-wanted (l % p .elements) (w .0) (w .1)))
+
+  -- zeros over a whole register
+  pub nothing-read : {dst dst′ : List ℕ} → Zeroed dst dst′ 0 → dst′ ≡ registerOf answer p pred (length dst)
+  unfolding registerOf registerByte
+  nothing-read {dst} {dst′} z =
+      is-listed _ dst′ (length dst) (z .long) (λ i h. z .zero i zero-le h ∙ sym (rw (none-lane (i / bytesOf (p .lane)), zero-div)))

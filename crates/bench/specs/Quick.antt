@@ -1,0 +1,118 @@
+-- A load whose elements lie together in a stretch: what the stretch says of them, and what the functions that fill from it promise. A
+-- chunk is eight bytes of a register, over which one byte of the predicate decides. This file serves proofs alone, and nothing in it
+-- has to be believed: the promise of `step` is StepPromise of loads.
+use Prim.Native.Nat.{ℕ, _+_, _-_, _*_, _/_, _%_, _^_, _≤_, _<_}
+use mathlib.Core.Path.{_≡_}
+use mathlib.Core.Bool.{Bool, true, false, _&&_}
+use mathlib.Core.List.{List, [], _∷_}
+use lib.Dec.{ltb, leb}
+use lib.ListN.{length, getD}
+use Rattle.ground.specs.Choices.{if_then_else_}
+use Rattle.ground.specs.Lists.{bytesAt}
+use Rattle.ground.specs.Sizes.{bytesOf}
+use Rattle.ground.proofs.Fills.{Filled}
+use Rattle.memory.specs.Addresses.{wrap}
+use Rattle.memory.specs.declared.Reading.{Reading}
+use Rattle.memory.specs.declared.Reading.the-variants.{Value}
+use Rattle.loads.specs.Lanes.{bitOf, wanted}
+use Rattle.loads.specs.Outcomes.{registerOf}
+use Rattle.loads.specs.Sounds.{Sound}
+use Rattle.loads.specs.declared.Plan.{Plan}
+use Rattle.loads.specs.declared.Rule.{Rule}
+use Rattle.loads.specs.declared.Rule.the-variants.{Always, LaneBit, ElementBit}
+use Rattle.loads.proofs.Walks.{many}
+use Rattle.plans.specs.Shapes.{Shaped}
+
+-- what a stretch that starts with element 0 says of element e
+unfoldable pub answersFrom : List ℕ → Plan → ℕ → Reading
+answersFrom s p e = Value (bytesAt s (e * bytesOf (p .size)) (bytesOf (p .size)))
+
+-- a number of n bytes in 64 bits: with its sign, or with zeros. A lane keeps as many of its bytes as it has
+unfoldable pub widenedOf : Bool → ℕ → ℕ → ℕ
+widenedOf signed n v = if signed && leb (2 ^ (8 * n - 1)) v then wrap (v + (2 ^ 64 - 2 ^ (8 * n))) else v
+
+-- lanes that are filled from a stretch: lane l is on where its bit is 1, and then has the element l strides on from a place
+module _ (s : List ℕ) (from : ℕ) (bits : List ℕ) (stride : ℕ) (signed : Bool) (size width : ℕ) where
+  unfoldable pub laneFrom : ℕ → ℕ
+  laneFrom l = if bitOf bits (l * width) then widenedOf signed size (bytesAt s (from + l * stride) size) else 0
+
+  unfoldable pub byteFrom : ℕ → ℕ
+  byteFrom i = laneFrom (i / width) / 256 ^ (i % width) % 256
+
+-- what so many lanes of `width` bytes in n bytes need of the stretch: a chunk is whole lanes, and every element lies in the stretch
+pub record LanesIn (s : List ℕ) (from stride lanes size width n : ℕ) : Type 0 where
+  pub even : 8 / width * width ≡ 8
+  pub some : 0 < size
+  pub small : size ≤ 8
+  pub near : stride ≤ 8
+  pub room : lanes * width ≤ n
+  pub inside : (l : ℕ) → l < lanes → from + l * stride + size ≤ length s
+
+-- .. and what is left of n bytes, with the number of lanes that are on
+pub record LanesOut (s : List ℕ) (from : ℕ) (bits : List ℕ) (stride : ℕ) (signed : Bool) (size width n : ℕ) (dst : List ℕ) (on lanes : ℕ) : Type 0 where
+  pub count : on ≡ many (λ l. bitOf bits (l * width)) 0 lanes
+  pub filled : Filled (byteFrom s from bits stride signed size width) width n dst lanes
+
+-- the first bytes of a list, over and over, up to an end
+pub record Copied (dst dst′ : List ℕ) (block end : ℕ) : Type 0 where
+  pub long : length dst′ ≡ length dst
+  pub copied : (i : ℕ) → i < end → getD dst′ i 0 ≡ getD dst (i % block) 0
+
+-- zeros from a place on
+pub record Zeroed (dst dst′ : List ℕ) (from : ℕ) : Type 0 where
+  pub long : length dst′ ≡ length dst
+  pub kept : (i : ℕ) → i < from → getD dst′ i 0 ≡ getD dst i 0
+  pub zero : (i : ℕ) → from ≤ i → i < length dst → getD dst′ i 0 ≡ 0
+
+-- by the rule: whether it is LD1R's; the chunks that are filled from the stretch, the rest being copies of them; how far apart their
+-- elements lie; the bits that decide; and the count of reads, from the number of lanes that are on
+abbrev pub isAlways : Rule → Bool
+isAlways Always = true
+isAlways LaneBit = false
+isAlways ElementBit = false
+
+abbrev pub ownOf : Rule → ℕ → ℕ → ℕ → ℕ
+ownOf Always elements filled width = 1
+ownOf LaneBit elements filled width = filled * width / 8
+ownOf ElementBit elements filled width = elements * width / 8
+
+abbrev pub strideOf : Rule → ℕ → ℕ
+strideOf Always size = 0
+strideOf LaneBit size = 0
+strideOf ElementBit size = size
+
+abbrev pub bitsOf : Rule → List ℕ → List ℕ
+bitsOf Always pred = 255 ∷ []
+bitsOf LaneBit pred = pred
+bitsOf ElementBit pred = pred
+
+abbrev pub countOf : Rule → ℕ → ℕ
+countOf Always on = 1
+countOf LaneBit on = if ltb 0 on then 1 else 0
+countOf ElementBit on = on
+
+-- a plan, a register of n bytes and a predicate that belong together
+pub record Fit (p : Plan) (pred : List ℕ) (n : ℕ) : Type 0 where
+  pub sound : Sound p
+  pub shaped : Shaped p n
+  pub most : n ≤ 256
+  pub whole : n % 8 ≡ 0
+  pub decided : n ≤ 8 * length pred
+
+-- the chunks of a plan that are filled from the stretch
+abbrev pub ownIn : Plan → ℕ
+ownIn p = ownOf (p .rule) (p .elements) (p .filled) (bytesOf (p .lane))
+
+-- what a fill from a stretch needs, and leaves
+pub record FillIn (p : Plan) (pred s : List ℕ) (n : ℕ) : Type 0 where
+  pub fit : Fit p pred n
+  pub long : length s ≡ p .elements * bytesOf (p .size)
+
+pub record FillOut (p : Plan) (pred s : List ℕ) (n : ℕ) (dst : List ℕ) (r : ℕ) : Type 0 where
+  pub count : r ≡ many (wanted p pred) 0 (p .elements)
+  pub bytes : dst ≡ registerOf (answersFrom s p) p pred n
+
+-- .. when the lanes that are filled from the stretch are done, before their copies
+abbrev pub OwnOut : Plan → List ℕ → List ℕ → ℕ → List ℕ → ℕ → Type 0
+OwnOut p pred s n dst on =
+    LanesOut s 0 (bitsOf (p .rule) pred) (strideOf (p .rule) (bytesOf (p .size))) (p .signed) (bytesOf (p .size)) (bytesOf (p .lane)) n dst on (ownIn p * (8 / bytesOf (p .lane)))

@@ -1,0 +1,177 @@
+// Lanes that are filled from a stretch of memory, chunk by chunk: a chunk is eight bytes of a register, over which one byte of the
+// predicate decides. `taken` is the one place of the quick road where a byte of memory is fetched, and it fetches none for a lane that
+// is off.
+use crate::actives;
+ghost use mathlib.Core.Path.{_≡_};
+ghost use mathlib.Core.Bool.{false};
+ghost use mathlib.Core.List.{[], _∷_};
+ghost use Prim.Native.Nat.{_+_, _*_, _/_, _≤_, _<_};
+ghost use lib.ListN.{length};
+ghost use Rattle.ground.specs.Choices.{if_then_else_};
+ghost use Rattle.ground.specs.Lists.{bytesAt};
+ghost use Rattle.bench.specs.Quick.{widenedOf, LanesIn, LanesOut};
+
+// The number that n bytes make from a place on, all of them there.
+fn whole(s: &[u8], at: usize, n: usize) -> u64
+    requires { ⌜ (n ≤ 8) × (at + n ≤ length (now s)) ⌝ }
+    ensures { λ r. ⌜ r ≡ bytesAt (now (s .entry)) at n ⌝ }
+{
+    let mut value: u64 = 0;
+    let mut i: usize = 0;
+    while i < n {
+        value += (s[at + i] as u64) << (8 * i);
+        i += 1;
+    }
+    value
+}
+
+// A number of so many bytes in 64 bits. A signed one from half of its numbers on is negative, and all bits above it are 1.
+fn widened(signed: bool, size: usize, v: u64) -> u64
+    requires { ⌜ (0 < size) × (size ≤ 8) ⌝ }
+    ensures { λ r. ⌜ r ≡ widenedOf signed size v ⌝ }
+{
+    let half: u64 = 1 << (8 * size - 1);
+    if signed & (half <= v) {
+        let largest = half - 1 + half;
+        return std::num::wrapping_add_u64(v, 18446744073709551615 - largest);
+    }
+    v
+}
+
+// What a lane becomes: where it is on, the element at a place, widened; and else zero, with no byte looked at.
+fn taken(on: bool, stretch: &[u8], at: usize, signed: bool, size: usize) -> u64
+    requires { ⌜ (0 < size) × (size ≤ 8) × (at + size ≤ length (now stretch)) ⌝ }
+    ensures { λ r. ⌜ r ≡ (if on then widenedOf signed size (bytesAt (now (stretch .entry)) at size) else 0) ⌝ }
+{
+    if on {
+        return widened(signed, size, whole(stretch, at, size));
+    }
+    0
+}
+
+// 1 where it is on.
+pub(crate) fn one_if(on: bool) -> u64
+    ensures { λ r. ⌜ r ≡ (if on then 1 else 0) ⌝ }
+{
+    if on { 1 } else { 0 }
+}
+
+// Fills a chunk from the elements that lie so many strides on from a place, by the byte of the predicate that decides over it, and counts
+// the lanes that are on. Where no bit of that byte is 1, it is zero at once.
+fn chunk(
+    dst: &mut [u8],
+    stretch: &[u8],
+    from: usize,
+    byte: u8,
+    stride: usize,
+    signed: bool,
+    size: usize,
+    width: usize,
+) -> u64
+    requires { ⌜ (length (now dst) ≡ 8) × LanesIn (now stretch) from stride (8 / width) size width 8 ⌝ }
+    ensures { λ r. ⌜ LanesOut (now (stretch .entry)) from (byte ∷ []) stride signed size width 8 (now (dst .exit)) r (8 / width) ⌝ }
+{
+    if byte == 0 {
+        ground::put(dst, 0);
+        return 0;
+    }
+    let bits = [byte; 1];
+    let lanes = 8 / width;
+    let mut count: u64 = 0;
+    let mut l = 0;
+    while l < lanes {
+        let at = l * width;
+        let end = at + width;
+        let on = actives::active(&bits, at as u64);
+        let v = taken(on, stretch, from + l * stride, signed, size);
+        ground::put(&mut dst[at..end], v);
+        count += one_if(on);
+        l += 1;
+    }
+    count
+}
+
+// Fills so many chunks, one after the other.
+fn chunks(
+    dst: &mut [u8],
+    stretch: &[u8],
+    bits: &[u8],
+    stride: usize,
+    own: usize,
+    signed: bool,
+    size: usize,
+    width: usize,
+) -> u64
+    requires { ⌜ (LanesIn (now stretch) 0 stride (own * (8 / width)) size width (length (now dst))) × (own ≤ 32) × (own ≤ length (now bits)) ⌝ }
+    ensures { λ r. ⌜ LanesOut (now (stretch .entry)) 0 (now (bits .entry)) stride signed size width (length (now (dst .entry))) (now (dst .exit)) r (own * (8 / width)) ⌝ }
+{
+    let step = 8 / width * stride;
+    let mut count: u64 = 0;
+    let mut c = 0;
+    while c < own {
+        let at = c * 8;
+        let end = at + 8;
+        count += chunk(
+            &mut dst[at..end],
+            stretch,
+            c * step,
+            bits[c],
+            stride,
+            signed,
+            size,
+            width,
+        );
+        c += 1;
+    }
+    count
+}
+
+// The same, with a call for each row of sizes, so that in each the sizes and the sign are constants: sign, lane and memory size in bytes
+// are a digit each.
+pub(crate) fn sized(
+    dst: &mut [u8],
+    stretch: &[u8],
+    bits: &[u8],
+    stride: usize,
+    own: usize,
+    signed: bool,
+    size: usize,
+    width: usize,
+) -> u64
+    requires { ⌜ (LanesIn (now stretch) 0 stride (own * (8 / width)) size width (length (now dst))) × (own ≤ 32) × (own ≤ length (now bits)) ⌝ }
+    ensures { λ r. ⌜ LanesOut (now (stretch .entry)) 0 (now (bits .entry)) stride signed size width (length (now (dst .entry))) (now (dst .exit)) r (own * (8 / width)) ⌝ }
+{
+    match one_if(signed) as usize * 0x100 + width * 0x10 + size {
+        0x011 => chunks(dst, stretch, bits, stride, own, false, 1, 1),
+        0x021 => chunks(dst, stretch, bits, stride, own, false, 1, 2),
+        0x121 => chunks(dst, stretch, bits, stride, own, true, 1, 2),
+        0x022 => chunks(dst, stretch, bits, stride, own, false, 2, 2),
+        0x041 => chunks(dst, stretch, bits, stride, own, false, 1, 4),
+        0x141 => chunks(dst, stretch, bits, stride, own, true, 1, 4),
+        0x042 => chunks(dst, stretch, bits, stride, own, false, 2, 4),
+        0x142 => chunks(dst, stretch, bits, stride, own, true, 2, 4),
+        0x044 => chunks(dst, stretch, bits, stride, own, false, 4, 4),
+        0x081 => chunks(dst, stretch, bits, stride, own, false, 1, 8),
+        0x181 => chunks(dst, stretch, bits, stride, own, true, 1, 8),
+        0x082 => chunks(dst, stretch, bits, stride, own, false, 2, 8),
+        0x182 => chunks(dst, stretch, bits, stride, own, true, 2, 8),
+        0x084 => chunks(dst, stretch, bits, stride, own, false, 4, 8),
+        0x184 => chunks(dst, stretch, bits, stride, own, true, 4, 8),
+        0x088 => chunks(dst, stretch, bits, stride, own, false, 8, 8),
+        _ => chunks(dst, stretch, bits, stride, own, signed, size, width),
+    }
+}
+
+// A chunk of LD1R, in which every lane is on and takes the one element; with a call for each size, as above.
+pub(crate) fn replicated(dst: &mut [u8], stretch: &[u8], size: usize) -> u64
+    requires { ⌜ (length (now dst) ≡ 8) × LanesIn (now stretch) 0 0 (8 / size) size size 8 ⌝ }
+    ensures { λ r. ⌜ LanesOut (now (stretch .entry)) 0 (255 ∷ []) 0 false size size 8 (now (dst .exit)) r (8 / size) ⌝ }
+{
+    match size {
+        1 => chunk(dst, stretch, 0, 255, 0, false, 1, 1),
+        2 => chunk(dst, stretch, 0, 255, 0, false, 2, 2),
+        4 => chunk(dst, stretch, 0, 255, 0, false, 4, 4),
+        8 => chunk(dst, stretch, 0, 255, 0, false, 8, 8),
+        _ => chunk(dst, stretch, 0, 255, 0, false, size, size),
+    }
+}

@@ -1,0 +1,134 @@
+// The two roads of a load past the stack rule: where all its elements lie together its destination is filled from that stretch, and else
+// it goes one by one through the elements that it asks for.
+use crate::ended;
+use crate::fills;
+use crate::quick;
+use crate::reads;
+use crate::stretches;
+use loads::Answer;
+use loads::Plan;
+use loads::StepResult;
+use memory::Map;
+ghost use mathlib.Core.Path.{_≡_};
+ghost use Prim.Native.Nat.{_*_, _%_, _≤_};
+ghost use lib.ListN.{length};
+ghost use Rattle.memory.specs.Areas.{areasOf};
+ghost use Rattle.memory.specs.Said.{Taken};
+ghost use Rattle.loads.specs.Outcomes.{answersIn, surveyOf, registerOf};
+ghost use Rattle.loads.specs.Sounds.{Sound};
+ghost use Rattle.bench.specs.Quick.{Fit};
+ghost use Rattle.bench.specs.Roads.{Loaded, Targeted, Ran};
+
+// What a load that ran writes, element by element: where it read nothing, zeros.
+fn written(
+    dst: &mut [u8],
+    map: Map,
+    flash: &[u8],
+    flash_rights: &[u8],
+    ram: &[u8],
+    ram_rights: &[u8],
+    pred: &[u8],
+    plan: Plan,
+    count: u64,
+)
+    requires { ⌜ Sound plan ⌝ }
+    requires { ⌜ (length (now dst) ≤ 256) × (length (now dst) % 8 ≡ 0) ⌝ }
+    requires { ⌜ Ran (surveyOf (answersIn (areasOf map (now flash) (now «flash_rights») (now ram) (now «ram_rights»)) plan) plan (now pred)) count ⌝ }
+    ensures { λ _. ⌜ now (dst .exit) ≡ registerOf (answersIn (areasOf map (now (flash .entry)) (now («flash_rights» .entry)) (now (ram .entry)) (now («ram_rights» .entry))) plan) plan (now (pred .entry)) (length (now (dst .entry))) ⌝ }
+{
+    if count == 0 {
+        fills::zeros(dst, 0)
+    } else {
+        fills::fill(dst, map, flash, flash_rights, ram, ram_rights, pred, plan)
+    }
+}
+
+// One by one: a survey that only reads, and only where that is clear the destination.
+fn one_by_one(
+    dst: &mut [u8],
+    map: Map,
+    flash: &[u8],
+    flash_rights: &[u8],
+    ram: &[u8],
+    ram_rights: &[u8],
+    pred: &[u8],
+    plan: Plan,
+) -> StepResult
+    requires { ⌜ Sound plan ⌝ }
+    requires { ⌜ (length (now dst) ≤ 256) × (length (now dst) % 8 ≡ 0) ⌝ }
+    ensures { λ r. ⌜ Loaded (answersIn (areasOf map (now (flash .entry)) (now («flash_rights» .entry)) (now (ram .entry)) (now («ram_rights» .entry))) plan) plan (now (pred .entry)) (now (dst .entry)) r (now (dst .exit)) ⌝ }
+{
+    let found = reads::survey(map, flash, flash_rights, ram, ram_rights, pred, plan);
+    let answer = found.answer;
+    if answer.number() == 0 {
+        written(
+            dst,
+            map,
+            flash,
+            flash_rights,
+            ram,
+            ram_rights,
+            pred,
+            plan,
+            found.count,
+        );
+        return found;
+    }
+    found
+}
+
+// A load into a destination register.
+fn load<'a>(
+    dst: &mut [u8],
+    map: Map,
+    flash: &'a [u8],
+    flash_rights: &[u8],
+    ram: &'a [u8],
+    ram_rights: &[u8],
+    pred: &[u8],
+    plan: Plan,
+) -> StepResult
+    requires { ⌜ Taken (areasOf map (now flash) (now «flash_rights») (now ram) (now «ram_rights»)) ⌝ }
+    requires { ⌜ Fit plan (now pred) (length (now dst)) ⌝ }
+    ensures { λ r. ⌜ Loaded (answersIn (areasOf map (now (flash .entry)) (now («flash_rights» .entry)) (now (ram .entry)) (now («ram_rights» .entry))) plan) plan (now (pred .entry)) (now (dst .entry)) r (now (dst .exit)) ⌝ }
+{
+    let size = plan.size;
+    let bytes = (plan.elements * size.bytes()) as usize;
+    let stretch = stretches::find(map, flash, flash_rights, ram, ram_rights, plan.start, bytes);
+    if stretch.len() == bytes {
+        let count = quick::fill(dst, stretch, pred, plan);
+        return ended(count, Answer::Ran);
+    }
+    one_by_one(dst, map, flash, flash_rights, ram, ram_rights, pred, plan)
+}
+
+// A load into the plan's target, a middle part of a vector file of 32 registers of n bytes, which is lent on to be written.
+pub(crate) fn target<'a>(
+    z: &mut [u8],
+    n: usize,
+    map: Map,
+    flash: &'a [u8],
+    flash_rights: &[u8],
+    ram: &'a [u8],
+    ram_rights: &[u8],
+    pred: &[u8],
+    plan: Plan,
+) -> StepResult
+    requires { ⌜ Taken (areasOf map (now flash) (now «flash_rights») (now ram) (now «ram_rights»)) ⌝ }
+    requires { ⌜ Fit plan (now pred) n ⌝ }
+    requires { ⌜ length (now z) ≡ 32 * n ⌝ }
+    ensures { λ r. ⌜ Targeted (answersIn (areasOf map (now (flash .entry)) (now («flash_rights» .entry)) (now (ram .entry)) (now («ram_rights» .entry))) plan) plan (now (pred .entry)) n (now (z .entry)) r (now (z .exit)) ⌝ }
+{
+    let at = plan.target as usize * n;
+    let end = at + n;
+    load(
+        &mut z[at..end],
+        map,
+        flash,
+        flash_rights,
+        ram,
+        ram_rights,
+        pred,
+        plan,
+    )
+}
