@@ -19,5 +19,6 @@ pub mod rng;
 pub mod rules;
 pub mod sample;
 pub mod sharp;
+pub mod together;
 pub mod words;
 pub mod wrong;

@@ -183,13 +183,16 @@ fn run_agree(words: &[String]) -> Result<(), Trouble> {
     let options = Options::read(words, &["--seed", "--count"], &[])?;
     let seed = options.number("--seed", None)?;
     let count = options.number("--count", None)?;
-    if let Some(difference) = agree(seed, count, plain::step) {
-        say(&difference)?;
-        return Err(Trouble::Said(1));
+    match agree(seed, count, plain::step) {
+        Err(difference) => {
+            say(&difference)?;
+            Err(Trouble::Said(1))
+        }
+        Ok(tally) => say(&format!(
+            "{}{count} cases of seed {seed}: both shapes of the step agree\n",
+            tally.in_words()
+        )),
     }
-    say(&format!(
-        "{count} cases of seed {seed}: both shapes of the step agree\n"
-    ))
 }
 
 fn run_compare(words: &[String]) -> Result<(), Trouble> {

@@ -139,10 +139,30 @@ fn both_shapes_of_the_step_answer_and_agree() {
         assert!(output == read(&files.outcomes));
     }
     let (status, output, _) = run(&["agree", "--seed", "4", "--count", "1000"], &[]);
-    assert_eq!(
-        (status, text(output).as_str()),
-        (0, "1000 cases of seed 4: both shapes of the step agree\n")
-    );
+    assert_eq!(status, 0);
+    let output = text(output);
+    table_of_answers(&output, 1000);
+    let last = output.lines().last().expect("a line");
+    assert_eq!(last, "1000 cases of seed 4: both shapes of the step agree");
+}
+
+/// The table by family and answer: all cases are in it, and its last column adds up to the line below.
+fn table_of_answers(output: &str, cases: u64) {
+    let lines: Vec<&str> = output.lines().collect();
+    assert!(lines[0].starts_with("answer") && lines[0].ends_with(" together"));
+    let (mut answers, mut together) = (0, 0);
+    for line in &lines[1..11] {
+        let cells: Vec<u64> = (line.split_whitespace().rev().take(9))
+            .map(|cell| cell.parse().expect("a number"))
+            .collect();
+        assert!(cells[0] <= cells[8], "only a load that ran lies together");
+        together += cells[0];
+        answers += cells[1..].iter().sum::<u64>();
+    }
+    assert_eq!(answers, cases);
+    let percent = 100 * together / cases;
+    assert!(lines[11].starts_with(&format!("{together} of {cases} cases, {percent}.")));
+    assert!(lines[11].ends_with(" %, lie together"));
 }
 
 #[test]
@@ -152,6 +172,7 @@ fn compare_finds_no_difference_to_itself() {
     assert_eq!(status, 0);
     assert!(output.contains("3000 cases") && output.contains("no difference"));
     assert!(output.contains("LD1RO scalar"));
+    table_of_answers(&output, 3000);
     assert_eq!(compare(&program, "0").0, 0);
 }
 
