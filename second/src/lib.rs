@@ -10,6 +10,7 @@ pub mod cases;
 pub mod compare;
 pub mod decode;
 pub mod describe;
+pub mod edges;
 pub mod generate;
 pub mod loads;
 pub mod machine;

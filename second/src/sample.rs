@@ -92,7 +92,7 @@ pub fn causes(family: Family) -> &'static [Cause] {
 }
 
 /// How many rows of sizes a family has.
-fn rows(family: Family) -> u32 {
+pub fn rows(family: Family) -> u32 {
     match family {
         Family::Ld1rNoOffset | Family::Ld1rPostIndex => 8,
         Family::Ld1rElement | Family::Ld1Immediate | Family::Ld1Scalar => 16,
@@ -191,7 +191,7 @@ fn cells_of_a_read(case: &Case, outcome: &Outcome, answer: Answer) -> Vec<Cell> 
 }
 
 /// The row of sizes of a word: dtype, msz, or Q above size.
-fn row(word: u32, family: Family) -> u32 {
+pub fn row(word: u32, family: Family) -> u32 {
     match family {
         Family::Ld1rNoOffset | Family::Ld1rPostIndex => word >> 30 << 2 | word >> 10 & 3,
         Family::Ld1rElement => (word >> 23 & 3) << 2 | word >> 13 & 3,

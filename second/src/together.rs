@@ -26,6 +26,12 @@ impl Stretch {
         }
     }
 
+    /// The stretch of an accepted set-up whose word is a load.
+    pub fn of_case(case: &Case) -> Option<Stretch> {
+        let load = decode(&Right, case.word, case.bench.f64mm).ok()?;
+        accepted(&Right, &case.bench).then(|| Stretch::of(&load, &case.bench))
+    }
+
     /// The first address behind it, as an integer that may be 2^64 or more.
     pub fn end(self) -> u128 {
         u128::from(self.first) + u128::from(self.length)
@@ -42,6 +48,18 @@ impl Stretch {
         let last = first.wrapping_add(self.length).wrapping_sub(1);
         (first / PAGE) as usize..=(last / PAGE) as usize
     }
+
+    /// Whether it lies in an accepted area, on pages that have the read right.
+    pub fn readable_in(self, area: &Area) -> bool {
+        self.lies_in(area) && self.pages(area).all(|page| readable(area, page))
+    }
+}
+
+/// Whether an area has this page, with the read right.
+pub fn readable(area: &Area, page: usize) -> bool {
+    area.rights
+        .get(page)
+        .is_some_and(|right| Right.readable(*right))
 }
 
 /// Whether the elements of a case lie together: the set-up is accepted, the word is a load that comes
@@ -49,18 +67,8 @@ impl Stretch {
 /// on pages that have the read right. It is about where the bytes lie, not about which are active: a
 /// load without an active lane may lie together too.
 pub fn lies_together(case: &Case) -> bool {
-    let bench = &case.bench;
-    let Ok(load) = decode(&Right, case.word, bench.f64mm) else {
-        return false;
-    };
-    if !accepted(&Right, bench) {
-        return false;
-    }
-    let stretch = Stretch::of(&load, bench);
-    let readable = |area: &Area| {
-        let mut pages = stretch.pages(area);
-        stretch.lies_in(area) && pages.all(|page| Right.readable(area.rights[page]))
-    };
+    let Bench { flash, ram, .. } = &case.bench;
+    let readable = |stretch: Stretch| stretch.readable_in(flash) || stretch.readable_in(ram);
     // Where no byte can be bad, a load that comes to read runs
-    (readable(&bench.flash) || readable(&bench.ram)) && answer_of(case.word, bench) == Answer::Ran
+    Stretch::of_case(case).is_some_and(readable) && answer_of(case.word, &case.bench) == Answer::Ran
 }
