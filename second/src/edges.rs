@@ -56,6 +56,17 @@ impl Edge {
         Edge::AcrossAreas,
     ];
 
+    /// Those of elements that do not lie together.
+    pub const MISSED: [Edge; 7] = [
+        Edge::BeforeArea,
+        Edge::PastArea,
+        Edge::BeforeReadable,
+        Edge::PastReadable,
+        Edge::FirstDenied,
+        Edge::LastDenied,
+        Edge::AcrossAreas,
+    ];
+
     /// Whether a stretch that lies in the area, all readable, meets this edge of it.
     fn met(self, stretch: Stretch, area: &Area) -> bool {
         let (first, end) = (u128::from(stretch.first), stretch.end());

@@ -24,9 +24,10 @@ second: a second interpreter of Arm vector loads, written apart
   second answer [--plain] < cases > outcomes
       answers a stream of cases, as replay does; --plain: by the step of plain shape
   second agree --seed S --count N
-      compares the two shapes of the step over N generated cases
+      compares the two shapes of the step over N generated cases; shows how many of which family gave
+      which answer, and how many have all their elements together
   second compare --seed S --count N [--replay PROGRAM]
-      compares N generated cases with PROGRAM (default ./replay)
+      compares N generated cases with PROGRAM (default ./replay); shows the same table
   second broken [--seed S] [--replay PROGRAM]
       sends broken streams through PROGRAM: what was answered stands, and one line says why
   second case --seed S --number K [--bytes FILE]
@@ -295,9 +296,10 @@ fn run_sample(words: &[String]) -> Result<(), Trouble> {
         }
     }
     say(&format!(
-        "{} cases of seed {seed} and {more} more, {} + {} bytes; {} cells covered, \
-         each family with each answer at least {EACH} times\n",
+        "{} cases of seed {seed}, {} of them lie together, and {more} more, {} + {} bytes; \
+         {} cells covered, each family with each answer at least {EACH} times\n",
         sample.numbers.len(),
+        sample.together,
         sample.cases.len(),
         sample.outcomes.len(),
         sample.cells.len(),

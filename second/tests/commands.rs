@@ -239,7 +239,8 @@ fn a_case_is_shown_and_written_and_answered() {
     let arguments = ["case", "--seed", "1", "--number", "15", "--bytes", file];
     let (status, output, _) = run(&arguments, &[]);
     assert_eq!(status, 0);
-    assert!(text(output).contains("case 15 of seed 1"));
+    let words = text(output);
+    assert!(words.contains("case 15 of seed 1") && words.contains(" bytes from 0x"));
     let (status, output, _) = run(&["answer"], &fs::read(file).expect("written"));
     assert_eq!(status, 0);
     assert!(output.len() > 25);
@@ -259,7 +260,14 @@ fn sharp_tells_all_apart_or_says_so() {
 fn a_sample_is_written_and_checked() {
     let files = Files::sampled("sample", "1");
     let check = files.with(&["sample", "--seed", "1", "--check"]);
-    assert_eq!(run(&check, &[]).0, 0);
+    let (status, output, _) = run(&check, &[]);
+    assert_eq!(status, 0);
+    let line = text(output);
+    assert!(line.starts_with("650 cases of seed 1, 3"), "{line}");
+    assert!(
+        line.contains(" of them lie together, and 0 more, "),
+        "{line}"
+    );
     let (status, output, _) = run(&["answer"], &read(&files.cases));
     assert_eq!(status, 0);
     assert!(output == read(&files.outcomes));
@@ -345,7 +353,7 @@ fn pairs_are_woven_and_held() {
     let (status, output, _) = run(&["recorded"], &pairs);
     assert_eq!(
         (status, text(output).as_str()),
-        (0, "500 of 500 recorded steps agree\n")
+        (0, "650 of 650 recorded steps agree\n")
     );
     let mut more = read(&files.outcomes);
     more.push(0);

@@ -5,6 +5,7 @@ mod common;
 use common::*;
 use second::cases::Case;
 use second::decode::{decode, Family};
+use second::edges::{edges_of, Edge};
 use second::generate::{case, distance};
 use second::machine::{Area, Bench, SP};
 use second::rules::{Right, Rules};
@@ -179,4 +180,79 @@ fn generated_cases_are_judged_as_byte_by_byte() {
         found[usize::from(expected)] += 1;
     }
     assert!(found[0] > 5_000 && found[1] > 5_000, "{found:?}");
+}
+
+/// The edges that LD1D (scalar plus immediate) meets at VL 256, so with 32 bytes, at an address.
+fn edges(bench: &Bench, x0: u64) -> Vec<Edge> {
+    let mut bench = bench.clone();
+    bench.x[0] = x0;
+    edges_of(&Case {
+        word: 0xA5E0_A000,
+        level: 0,
+        bench,
+    })
+}
+
+#[test]
+fn the_edges_of_what_lies_together() {
+    let mut bench = two_areas(256);
+    let border = FLASH + 4096;
+    let end = FLASH + 2 * 4096 + 64;
+    assert_eq!(edges(&bench, FLASH), [Edge::AreaStart]);
+    assert_eq!(edges(&bench, FLASH + 1), []);
+    assert_eq!(edges(&bench, border - 33), []);
+    assert_eq!(edges(&bench, border - 32), [Edge::PageEnd]);
+    assert_eq!(edges(&bench, border - 31), [Edge::AcrossPages]);
+    assert_eq!(edges(&bench, border - 1), [Edge::AcrossPages]);
+    assert_eq!(edges(&bench, border), [Edge::PageStart]);
+    assert_eq!(edges(&bench, end - 33), [Edge::PartOfPage]);
+    assert_eq!(edges(&bench, end - 32), [Edge::AreaEnd, Edge::PartOfPage]);
+    bench.flash.rights[1] = 0;
+    let before = [Edge::PageEnd, Edge::BeforeDenied];
+    assert_eq!(edges(&bench, border - 32), before);
+    let after = [Edge::PartOfPage, Edge::PageStart, Edge::AfterDenied];
+    assert_eq!(edges(&bench, border + 4096), after);
+    bench.ram.start = 0_u64.wrapping_sub(4096);
+    let top = [Edge::AreaEnd, Edge::Top];
+    assert_eq!(edges(&bench, 0_u64.wrapping_sub(32)), top);
+}
+
+#[test]
+fn the_edges_of_what_just_does_not() {
+    let mut bench = two_areas(256);
+    let border = FLASH + 4096;
+    let end = FLASH + 2 * 4096 + 64;
+    assert_eq!(edges(&bench, FLASH - 1), [Edge::BeforeArea]);
+    assert_eq!(edges(&bench, FLASH - 2), []);
+    assert_eq!(edges(&bench, end - 31), [Edge::PastArea]);
+    assert_eq!(edges(&bench, end - 30), []);
+    bench.flash.rights = vec![1, 0, 1];
+    let past = [Edge::PastReadable, Edge::LastDenied];
+    assert_eq!(edges(&bench, border - 31), past);
+    assert_eq!(edges(&bench, border - 30), [Edge::LastDenied]);
+    assert_eq!(edges(&bench, border), []);
+    let before = [Edge::BeforeReadable, Edge::FirstDenied];
+    assert_eq!(edges(&bench, border + 4095), before);
+    assert_eq!(edges(&bench, border + 4094), [Edge::FirstDenied]);
+    // What lies behind the RAM is the flash, and behind the flash nothing
+    bench.ram.start = FLASH - 4096;
+    let one_each = [Edge::PastArea, Edge::AcrossAreas];
+    assert_eq!(edges(&bench, FLASH - 31), one_each);
+    assert_eq!(edges(&bench, FLASH - 16), [Edge::AcrossAreas]);
+    bench.flash.rights[0] = 0;
+    assert_eq!(edges(&bench, FLASH - 16), []);
+    // Around 2^64
+    bench.flash = area(0, vec![7; 64]);
+    bench.ram.start = 0_u64.wrapping_sub(4096);
+    assert_eq!(edges(&bench, 0_u64.wrapping_sub(8)), [Edge::AcrossAreas]);
+}
+
+#[test]
+fn a_load_that_does_not_come_to_read_meets_no_edge() {
+    let mut bench = two_areas(256);
+    bench.sve = false;
+    assert_eq!(edges(&bench, FLASH), []);
+    bench.sve = true;
+    bench.x.push(0);
+    assert_eq!(edges(&bench, FLASH), []);
 }
