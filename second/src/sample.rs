@@ -1,7 +1,7 @@
 //! A sample of the generated cases that covers what is to be covered, small enough to be kept.
 
 use crate::cases::{Case, Outcome};
-use crate::decode::{decode, Family};
+use crate::decode::{decode, Family, Load};
 use crate::edges::{edges_of, Edge};
 use crate::generate;
 use crate::machine::{Answer, Refusal, SP};
@@ -191,9 +191,8 @@ pub fn cells_of(case: &Case, outcome: &Outcome) -> Vec<Cell> {
 /// The cells of a load that read, or ran without a read.
 fn cells_of_a_read(case: &Case, outcome: &Outcome, answer: Answer) -> Vec<Cell> {
     let mut cells = Vec::new();
-    let bench = &case.bench;
     let count = outcome.report.count;
-    let Ok(load) = decode(&Right, case.word, bench.f64mm) else {
+    let Ok(load) = decode(&Right, case.word, case.bench.f64mm) else {
         return cells;
     };
     for edge in edges_of(case) {
@@ -205,11 +204,17 @@ fn cells_of_a_read(case: &Case, outcome: &Outcome, answer: Answer) -> Vec<Cell> 
     if matches!(answer, Answer::NoMemory | Answer::Denied) && count > 0 {
         cells.push(Cell::LaterFault(load.family));
     }
-    if answer != Answer::Ran {
-        return cells;
+    if answer == Answer::Ran {
+        cells.extend(cells_of_a_run(case, &load, count));
     }
+    cells
+}
+
+/// The cells of a load that ran with so many reads.
+fn cells_of_a_run(case: &Case, load: &Load, count: u64) -> Vec<Cell> {
+    let bench = &case.bench;
     let row = row(case.word, load.family);
-    cells.push(Cell::Length(bench.vl));
+    let mut cells = vec![Cell::Length(bench.vl)];
     cells.push(match count {
         0 => Cell::NoneActive(load.family),
         _ => Cell::Row(load.family, row),
@@ -222,7 +227,7 @@ fn cells_of_a_read(case: &Case, outcome: &Outcome, answer: Answer) -> Vec<Cell> 
         cells.push(Cell::FromStack(load.family));
     }
     let lanes = load.lanes(bench.vl);
-    let address = |e| bench.x[load.n].wrapping_add(generate::distance(&load, bench, e));
+    let address = |e| bench.x[load.n].wrapping_add(generate::distance(load, bench, e));
     let last = address(lanes - 1).wrapping_add(load.msize / 8 - 1);
     if last < address(0) && count == lanes {
         cells.push(Cell::Wrapped);

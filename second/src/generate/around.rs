@@ -95,9 +95,10 @@ pub fn areas(rng: &mut Rng, load: &Load, bench: &mut Bench) -> u64 {
     }
     let first = home.start.wrapping_add(offset);
     (bench.flash, bench.ram) = rng.in_either_order(home, other);
-    match amiss {
-        true => first.wrapping_add(slip(rng, load, place, length)),
-        false => first,
+    if amiss {
+        first.wrapping_add(slip(rng, load, place, length))
+    } else {
+        first
     }
 }
 
