@@ -12,6 +12,7 @@ use crate::describe::{case_in_words, differences_in_words, report_in_short};
 use crate::generate;
 use crate::machine::Answer;
 use crate::rules::Right;
+use crate::together::lies_together;
 
 /// What a comparison found.
 pub enum Found {
@@ -23,36 +24,50 @@ pub enum Found {
     Trouble(String),
 }
 
-/// How many cases of each family (and of none) gave which answer.
+/// How many cases of each family (and of none) gave which answer, and how many lay together.
 #[derive(Default)]
 pub struct Tally {
     rows: [[u64; Answer::ALL.len()]; Family::ALL.len() + 1],
+    together: [u64; Family::ALL.len() + 1],
 }
 
 impl Tally {
-    fn add(&mut self, word: u32, answer: u8) {
+    fn add(&mut self, word: u32, together: bool, answer: u8) {
         let row = Family::of(word).map_or(Family::ALL.len(), |family| family as usize);
+        self.together[row] += u64::from(together);
         if let Some(cell) = self.rows[row].get_mut(usize::from(answer)) {
             *cell += 1;
         }
     }
 
+    /// A table by family and answer, and how many cases lay together: by family in the last column, of
+    /// all in the line below.
     pub fn in_words(&self) -> String {
         let mut text = format!("{:<16}", "answer");
-        for answer in Answer::ALL {
-            text += &format!(" {:>12}", Answer::name(answer.number()));
+        let answers = Answer::ALL.map(|answer| Answer::name(answer.number()));
+        for name in answers.into_iter().chain(["together"]) {
+            text += &format!(" {name:>12}");
         }
         let names = Family::ALL
             .map(Family::name)
             .into_iter()
             .chain(["no family"]);
-        for (name, row) in names.zip(&self.rows) {
+        for ((name, row), together) in names.zip(&self.rows).zip(&self.together) {
             text += &format!("\n{name:<16}");
-            for cell in row {
+            for cell in row.iter().chain([together]) {
                 text += &format!(" {cell:>12}");
             }
         }
-        text + "\n"
+        let together = self.together();
+        let cases: u64 = self.rows.iter().flatten().sum();
+        let share = 1000 * together / cases.max(1);
+        let (percent, tenth) = (share / 10, share % 10);
+        text + &format!("\n{together} of {cases} cases, {percent}.{tenth} %, lie together\n")
+    }
+
+    /// How many cases lay together.
+    pub fn together(&self) -> u64 {
+        self.together.iter().sum()
     }
 }
 
@@ -123,7 +138,7 @@ fn read_outcomes(seed: u64, count: u64, program: &str, stdout: ChildStdout) -> F
     let (mut ours, mut theirs) = (Vec::new(), Vec::new());
     for number in 0..count {
         let case = generate::case(seed, number);
-        let word = case.word;
+        let (word, together) = (case.word, lies_together(&case));
         let outcome = case.into_outcome(&Right);
         ours.clear();
         outcome.write(&mut ours);
@@ -140,7 +155,7 @@ fn read_outcomes(seed: u64, count: u64, program: &str, stdout: ChildStdout) -> F
                 Err(_) => format!("case {number} of seed {seed} differs\n"),
             });
         }
-        tally.add(word, outcome.report.answer);
+        tally.add(word, together, outcome.report.answer);
         progress.at(number + 1);
     }
     progress.end();
@@ -171,27 +186,26 @@ fn difference(seed: u64, number: u64, names: [&str; 2], outcomes: [&Outcome; 2])
     )
 }
 
-/// Compares the step that follows the pages with one of another shape, case by case; the first
-/// difference in words, if there is one.
-pub fn agree(seed: u64, count: u64, other: Step) -> Option<String> {
+/// Compares the step that follows the pages with one of another shape, case by case; what the cases
+/// were, or the first difference in words.
+pub fn agree(seed: u64, count: u64, other: Step) -> Result<Tally, String> {
+    let mut tally = Tally::default();
     let mut progress = Progress::new(count);
     for number in 0..count {
         let case = generate::case(seed, number);
+        let (word, together) = (case.word, lies_together(&case));
         let theirs = case.outcome_by(other);
         let ours = case.into_outcome(&Right);
         if ours != theirs {
             progress.end();
-            return Some(difference(
-                seed,
-                number,
-                ["pages", "plain"],
-                [&ours, &theirs],
-            ));
+            let names = ["pages", "plain"];
+            return Err(difference(seed, number, names, [&ours, &theirs]));
         }
+        tally.add(word, together, ours.report.answer);
         progress.at(number + 1);
     }
     progress.end();
-    None
+    Ok(tally)
 }
 
 /// The progress line on standard error: overwritten on a terminal, now and then one in a pipe.

@@ -150,6 +150,16 @@ impl Load {
             self.family.block().unwrap_or(vl) / self.esize
         }
     }
+
+    /// How many elements a load can ask for at this VL: one for each lane that it consults, save that
+    /// LD1R by element makes a single read for all of them.
+    pub fn elements(&self, vl: u64) -> u64 {
+        if self.family == Family::Ld1rElement {
+            1
+        } else {
+            self.lanes(vl)
+        }
+    }
 }
 
 fn bits(word: u32, high: u32, low: u32) -> u32 {

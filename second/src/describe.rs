@@ -8,6 +8,7 @@ use crate::decode::{decode, Family, Load};
 use crate::loads::Report;
 use crate::machine::{Answer, Area, Bench, Refusal, PAGE, PC, PREDICATES, SCALARS, SP, VECTORS};
 use crate::rules::{Right, Rules};
+use crate::together::{lies_together, Stretch};
 
 /// How many differing lanes or scalars a report lists before it only counts them.
 const LISTED: usize = 12;
@@ -34,6 +35,7 @@ pub fn case_in_words(case: &Case) -> String {
     );
     if let Some(load) = load_of(case) {
         text += &registers_in_words(&load, bench);
+        text += &stretch_in_words(&load, case);
     }
     text += &area_in_words("flash", &bench.flash);
     text += &area_in_words("RAM", &bench.ram);
@@ -50,6 +52,17 @@ fn registers_in_words(load: &Load, bench: &Bench) -> String {
         text += &predicate_in_words(load, bench);
     }
     text
+}
+
+/// The bytes of all elements, active or not.
+fn stretch_in_words(load: &Load, case: &Case) -> String {
+    let Stretch { first, length } = Stretch::of(load, &case.bench);
+    let lie = if lies_together(case) {
+        "together"
+    } else {
+        "not together"
+    };
+    format!("  all elements: {length} bytes from {first:#x} on, {lie}\n")
 }
 
 fn scalar_in_words(bench: &Bench, n: usize) -> String {

@@ -37,6 +37,14 @@ pub fn right_step(word: u32, bench: &mut Bench) -> Report {
     step(&Right, word, bench)
 }
 
+/// The answer that a step would give; the bench stays as it is.
+pub fn answer_of(word: u32, bench: &Bench) -> Answer {
+    match execute(&mut Machine::new(&Right, bench), word, bench) {
+        Ok(_) => Answer::Ran,
+        Err(stop) => stop.answer,
+    }
+}
+
 /// One step. Order of answers: 1, 2, 3 from the word and F64MM, 4, 3 for short VL, 5, then 6 or 7.
 pub fn step<R: Rules + ?Sized>(rules: &R, word: u32, bench: &mut Bench) -> Report {
     let mut machine = Machine::new(rules, bench);

@@ -24,9 +24,10 @@ second: a second interpreter of Arm vector loads, written apart
   second answer [--plain] < cases > outcomes
       answers a stream of cases, as replay does; --plain: by the step of plain shape
   second agree --seed S --count N
-      compares the two shapes of the step over N generated cases
+      compares the two shapes of the step over N generated cases; shows how many of which family gave
+      which answer, and how many have all their elements together
   second compare --seed S --count N [--replay PROGRAM]
-      compares N generated cases with PROGRAM (default ./replay)
+      compares N generated cases with PROGRAM (default ./replay); shows the same table
   second broken [--seed S] [--replay PROGRAM]
       sends broken streams through PROGRAM: what was answered stands, and one line says why
   second case --seed S --number K [--bytes FILE]
@@ -183,13 +184,16 @@ fn run_agree(words: &[String]) -> Result<(), Trouble> {
     let options = Options::read(words, &["--seed", "--count"], &[])?;
     let seed = options.number("--seed", None)?;
     let count = options.number("--count", None)?;
-    if let Some(difference) = agree(seed, count, plain::step) {
-        say(&difference)?;
-        return Err(Trouble::Said(1));
+    match agree(seed, count, plain::step) {
+        Err(difference) => {
+            say(&difference)?;
+            Err(Trouble::Said(1))
+        }
+        Ok(tally) => say(&format!(
+            "{}{count} cases of seed {seed}: both shapes of the step agree\n",
+            tally.in_words()
+        )),
     }
-    say(&format!(
-        "{count} cases of seed {seed}: both shapes of the step agree\n"
-    ))
 }
 
 fn run_compare(words: &[String]) -> Result<(), Trouble> {
@@ -292,9 +296,10 @@ fn run_sample(words: &[String]) -> Result<(), Trouble> {
         }
     }
     say(&format!(
-        "{} cases of seed {seed} and {more} more, {} + {} bytes; {} cells covered, \
-         each family with each answer at least {EACH} times\n",
+        "{} cases of seed {seed}, {} of them lie together, and {more} more, {} + {} bytes; \
+         {} cells covered, each family with each answer at least {EACH} times\n",
         sample.numbers.len(),
+        sample.together,
         sample.cases.len(),
         sample.outcomes.len(),
         sample.cells.len(),

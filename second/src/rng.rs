@@ -54,6 +54,15 @@ impl Rng {
         from[self.below(N as u64) as usize]
     }
 
+    /// Both, or both exchanged.
+    pub fn in_either_order<T>(&mut self, a: T, b: T) -> (T, T) {
+        if self.percent(50) {
+            (a, b)
+        } else {
+            (b, a)
+        }
+    }
+
     pub fn fill(&mut self, bytes: &mut [u8]) {
         let mut chunks = bytes.chunks_exact_mut(8);
         for chunk in &mut chunks {

@@ -1,23 +1,27 @@
 //! A sample of the generated cases that covers what is to be covered, small enough to be kept.
 
 use crate::cases::{Case, Outcome};
-use crate::decode::{decode, Family};
+use crate::decode::{decode, Family, Load};
+use crate::edges::{edges_of, Edge};
 use crate::generate;
 use crate::machine::{Answer, Refusal, SP};
 use crate::rules::{Right, Rules};
+use crate::together::lies_together;
 use crate::wrong::VARIANTS;
 
 /// How many cases a sample has, and how many at least of each cell.
-pub const CASES: usize = 500;
+pub const CASES: usize = 650;
 pub const EACH: usize = 3;
 /// How far the stream is searched for the rarest cell.
 const SEARCHED: u64 = 400_000;
 /// Behind this many cases a cell that is still wanted, such as an area at its limit, may be had
 /// from a large case.
 const PATIENCE: u64 = 15_000;
-/// The sizes up to which a case counts as small: both areas together, and the vector file.
+/// The sizes up to which a case counts as small: both areas together, and the vector file. Where the
+/// file is to be of every length, the areas must be smaller still.
 const SMALL_AREAS: u64 = 8192;
 const SMALL_FILE: usize = 2048;
+const TINY_AREAS: u64 = 1024;
 
 /// Why a word or a set-up is undefined, as far as the family can have it.
 #[derive(Clone, Copy, Debug, PartialEq, Eq)]
@@ -43,6 +47,14 @@ pub enum Cell {
     Row(Family, u32),
     /// A load that ran at this VL.
     Length(u64),
+    /// A load of this row that read, and whose elements lie together.
+    Together(Family, u32),
+    /// The same at this VL.
+    TogetherAt(Family, u64),
+    /// A load whose elements meet this edge.
+    Meets(Family, Edge),
+    /// One whose elements lie together but for a little, and which ran or did not.
+    Missed(Edge, bool),
     /// A load that ran with no active lane.
     NoneActive(Family),
     /// A fault behind lanes that were read.
@@ -63,7 +75,7 @@ impl Cell {
     pub fn wanted(self) -> usize {
         match self {
             Cell::AtLimit | Cell::Refused(Refusal::FlashLimit | Refusal::RamLimit) => 1,
-            Cell::Tells(_) => 1,
+            Cell::Tells(_) | Cell::TogetherAt(..) | Cell::Meets(..) => 1,
             _ => EACH,
         }
     }
@@ -92,7 +104,7 @@ pub fn causes(family: Family) -> &'static [Cause] {
 }
 
 /// How many rows of sizes a family has.
-fn rows(family: Family) -> u32 {
+pub fn rows(family: Family) -> u32 {
     match family {
         Family::Ld1rNoOffset | Family::Ld1rPostIndex => 8,
         Family::Ld1rElement | Family::Ld1Immediate | Family::Ld1Scalar => 16,
@@ -107,7 +119,15 @@ pub fn all_cells() -> Vec<Cell> {
     cells.extend((1..=16).map(|n| Cell::Length(128 * n)));
     cells.extend(Refusal::ALL.map(Cell::Refused));
     cells.extend((0..VARIANTS.len()).map(Cell::Tells));
+    for edge in Edge::MISSED {
+        cells.push(Cell::Missed(edge, true));
+        // Elements in two areas can all be read
+        if edge != Edge::AcrossAreas {
+            cells.push(Cell::Missed(edge, false));
+        }
+    }
     for family in Family::ALL {
+        cells.extend(cells_together(family));
         cells.extend(
             answers(family)
                 .into_iter()
@@ -128,6 +148,15 @@ pub fn all_cells() -> Vec<Cell> {
         }
     }
     cells
+}
+
+/// What a sample must have of a family's elements that lie together, or nearly so.
+fn cells_together(family: Family) -> Vec<Cell> {
+    let shortest = if family.is_ld1ro() { 2 } else { 1 };
+    let rows = (0..rows(family)).map(|row| Cell::Together(family, row));
+    let lengths = (shortest..=16).map(|n| Cell::TogetherAt(family, 128 * n));
+    let edges = Edge::ALL.map(|edge| Cell::Meets(family, edge));
+    rows.chain(lengths).chain(edges).collect()
 }
 
 /// The cells that a case with this outcome belongs to.
@@ -162,27 +191,43 @@ pub fn cells_of(case: &Case, outcome: &Outcome) -> Vec<Cell> {
 /// The cells of a load that read, or ran without a read.
 fn cells_of_a_read(case: &Case, outcome: &Outcome, answer: Answer) -> Vec<Cell> {
     let mut cells = Vec::new();
-    let bench = &case.bench;
     let count = outcome.report.count;
-    let Ok(load) = decode(&Right, case.word, bench.f64mm) else {
+    let Ok(load) = decode(&Right, case.word, case.bench.f64mm) else {
         return cells;
     };
+    for edge in edges_of(case) {
+        cells.push(Cell::Meets(load.family, edge));
+        if Edge::MISSED.contains(&edge) {
+            cells.push(Cell::Missed(edge, answer == Answer::Ran));
+        }
+    }
     if matches!(answer, Answer::NoMemory | Answer::Denied) && count > 0 {
         cells.push(Cell::LaterFault(load.family));
     }
-    if answer != Answer::Ran {
-        return cells;
+    if answer == Answer::Ran {
+        cells.extend(cells_of_a_run(case, &load, count));
     }
-    cells.push(Cell::Length(bench.vl));
+    cells
+}
+
+/// The cells of a load that ran with so many reads.
+fn cells_of_a_run(case: &Case, load: &Load, count: u64) -> Vec<Cell> {
+    let bench = &case.bench;
+    let row = row(case.word, load.family);
+    let mut cells = vec![Cell::Length(bench.vl)];
     cells.push(match count {
         0 => Cell::NoneActive(load.family),
-        _ => Cell::Row(load.family, row(case.word, load.family)),
+        _ => Cell::Row(load.family, row),
     });
+    if count > 0 && lies_together(case) {
+        cells.push(Cell::Together(load.family, row));
+        cells.push(Cell::TogetherAt(load.family, bench.vl));
+    }
     if load.n == SP && count > 0 {
         cells.push(Cell::FromStack(load.family));
     }
     let lanes = load.lanes(bench.vl);
-    let address = |e| bench.x[load.n].wrapping_add(generate::distance(&load, bench, e));
+    let address = |e| bench.x[load.n].wrapping_add(generate::distance(load, bench, e));
     let last = address(lanes - 1).wrapping_add(load.msize / 8 - 1);
     if last < address(0) && count == lanes {
         cells.push(Cell::Wrapped);
@@ -191,7 +236,7 @@ fn cells_of_a_read(case: &Case, outcome: &Outcome, answer: Answer) -> Vec<Cell> 
 }
 
 /// The row of sizes of a word: dtype, msz, or Q above size.
-fn row(word: u32, family: Family) -> u32 {
+pub fn row(word: u32, family: Family) -> u32 {
     match family {
         Family::Ld1rNoOffset | Family::Ld1rPostIndex => word >> 30 << 2 | word >> 10 & 3,
         Family::Ld1rElement => (word >> 23 & 3) << 2 | word >> 13 & 3,
@@ -219,6 +264,8 @@ fn only_cause(case: &Case, family: Family) -> Option<Cause> {
 /// A chosen sample: the bytes of its two files, and how often each cell occurs.
 pub struct Sample {
     pub numbers: Vec<u64>,
+    /// How many of its cases lie together.
+    pub together: usize,
     pub cases: Vec<u8>,
     pub outcomes: Vec<u8>,
     pub cells: Vec<(Cell, usize)>,
@@ -232,11 +279,11 @@ impl Sample {
 
     /// Whether the case has a cell of which there are not enough yet, and is small enough for it.
     fn wants(&self, number: u64, case: &Case, cells: &[Cell]) -> bool {
-        let areas = case.bench.flash.len() + case.bench.ram.len() <= SMALL_AREAS;
-        let small = areas && case.bench.z.len() <= SMALL_FILE;
+        let areas = case.bench.flash.len() + case.bench.ram.len();
+        let small = areas <= SMALL_AREAS && case.bench.z.len() <= SMALL_FILE;
         self.cells.iter().any(|(cell, had)| {
             let fits = match cell {
-                Cell::Length(_) => areas,
+                Cell::Length(_) | Cell::TogetherAt(..) => areas <= TINY_AREAS,
                 _ => small || number >= PATIENCE,
             };
             *had < cell.wanted() && fits && cells.contains(cell)
@@ -255,6 +302,7 @@ impl Sample {
 
     fn take(&mut self, number: u64, case: &Case, outcome: &Outcome, cells: &[Cell]) {
         self.numbers.push(number);
+        self.together += usize::from(lies_together(case));
         case.write(&mut self.cases);
         outcome.write(&mut self.outcomes);
         for (cell, had) in &mut self.cells {
@@ -268,6 +316,7 @@ impl Sample {
 pub fn sample(seed: u64) -> Result<Sample, String> {
     let mut sample = Sample {
         numbers: Vec::new(),
+        together: 0,
         cases: Vec::new(),
         outcomes: Vec::new(),
         cells: all_cells().into_iter().map(|cell| (cell, 0)).collect(),

@@ -139,10 +139,30 @@ fn both_shapes_of_the_step_answer_and_agree() {
         assert!(output == read(&files.outcomes));
     }
     let (status, output, _) = run(&["agree", "--seed", "4", "--count", "1000"], &[]);
-    assert_eq!(
-        (status, text(output).as_str()),
-        (0, "1000 cases of seed 4: both shapes of the step agree\n")
-    );
+    assert_eq!(status, 0);
+    let output = text(output);
+    table_of_answers(&output, 1000);
+    let last = output.lines().last().expect("a line");
+    assert_eq!(last, "1000 cases of seed 4: both shapes of the step agree");
+}
+
+/// The table by family and answer: all cases are in it, and its last column adds up to the line below.
+fn table_of_answers(output: &str, cases: u64) {
+    let lines: Vec<&str> = output.lines().collect();
+    assert!(lines[0].starts_with("answer") && lines[0].ends_with(" together"));
+    let (mut answers, mut together) = (0, 0);
+    for line in &lines[1..11] {
+        let cells: Vec<u64> = (line.split_whitespace().rev().take(9))
+            .map(|cell| cell.parse().expect("a number"))
+            .collect();
+        assert!(cells[0] <= cells[8], "only a load that ran lies together");
+        together += cells[0];
+        answers += cells[1..].iter().sum::<u64>();
+    }
+    assert_eq!(answers, cases);
+    let percent = 100 * together / cases;
+    assert!(lines[11].starts_with(&format!("{together} of {cases} cases, {percent}.")));
+    assert!(lines[11].ends_with(" %, lie together"));
 }
 
 #[test]
@@ -152,6 +172,7 @@ fn compare_finds_no_difference_to_itself() {
     assert_eq!(status, 0);
     assert!(output.contains("3000 cases") && output.contains("no difference"));
     assert!(output.contains("LD1RO scalar"));
+    table_of_answers(&output, 3000);
     assert_eq!(compare(&program, "0").0, 0);
 }
 
@@ -218,7 +239,8 @@ fn a_case_is_shown_and_written_and_answered() {
     let arguments = ["case", "--seed", "1", "--number", "15", "--bytes", file];
     let (status, output, _) = run(&arguments, &[]);
     assert_eq!(status, 0);
-    assert!(text(output).contains("case 15 of seed 1"));
+    let words = text(output);
+    assert!(words.contains("case 15 of seed 1") && words.contains(" bytes from 0x"));
     let (status, output, _) = run(&["answer"], &fs::read(file).expect("written"));
     assert_eq!(status, 0);
     assert!(output.len() > 25);
@@ -238,7 +260,14 @@ fn sharp_tells_all_apart_or_says_so() {
 fn a_sample_is_written_and_checked() {
     let files = Files::sampled("sample", "1");
     let check = files.with(&["sample", "--seed", "1", "--check"]);
-    assert_eq!(run(&check, &[]).0, 0);
+    let (status, output, _) = run(&check, &[]);
+    assert_eq!(status, 0);
+    let line = text(output);
+    assert!(line.starts_with("650 cases of seed 1, 3"), "{line}");
+    assert!(
+        line.contains(" of them lie together, and 0 more, "),
+        "{line}"
+    );
     let (status, output, _) = run(&["answer"], &read(&files.cases));
     assert_eq!(status, 0);
     assert!(output == read(&files.outcomes));
@@ -324,7 +353,7 @@ fn pairs_are_woven_and_held() {
     let (status, output, _) = run(&["recorded"], &pairs);
     assert_eq!(
         (status, text(output).as_str()),
-        (0, "500 of 500 recorded steps agree\n")
+        (0, "650 of 650 recorded steps agree\n")
     );
     let mut more = read(&files.outcomes);
     more.push(0);

@@ -3,10 +3,14 @@
 mod common;
 
 use common::both;
+use second::cases::Case;
 use second::decode::{decode, Family, Load};
+use second::edges::{edges_of, Edge};
 use second::generate::{case, distance};
 use second::machine::{accepted, Area, Bench};
-use second::rules::Right;
+use second::rules::{Right, Rules};
+use second::sample::{row, rows};
+use second::together::{lies_together, Stretch};
 
 const SEED: u64 = 11;
 const CASES: u64 = 20_000;
@@ -41,7 +45,7 @@ fn every_family_has_its_answers_often() {
         }
     }
     for family in Family::ALL {
-        for (answer, least) in [(0, 500), (1, 80), (4, 60), (5, 50), (6, 200), (7, 100)] {
+        for (answer, least) in [(0, 1000), (1, 80), (4, 60), (5, 40), (6, 120), (7, 90)] {
             let had = seen[family as usize][answer];
             assert!(had >= least, "{} {answer}: {had}", family.name());
         }
@@ -121,4 +125,154 @@ fn cases_stay_small() {
     assert!((8_000..20_000).contains(&mean), "{mean}");
     let large = sizes.iter().filter(|size| **size > 60_000).count();
     assert!(large < sizes.len() / 100, "{large}");
+}
+
+/// The cases that lie together, each with its load.
+fn together() -> impl Iterator<Item = (Case, Load)> {
+    (0..CASES).filter_map(|number| {
+        let case = case(SEED, number);
+        let load = decode(&Right, case.word, case.bench.f64mm).ok()?;
+        lies_together(&case).then_some((case, load))
+    })
+}
+
+#[test]
+fn one_half_of_all_cases_lies_together() {
+    let mut by_family = [0; 9];
+    for (_, load) in together() {
+        by_family[load.family as usize] += 1;
+    }
+    let all = by_family.iter().sum::<u64>();
+    assert!((CASES / 2..CASES * 11 / 20).contains(&all), "{all}");
+    // A family has a ninth of the cases, and the undefined and switched off ones of it count too
+    for (family, had) in Family::ALL.into_iter().zip(by_family) {
+        assert!(had * 9 >= CASES * 2 / 5, "{} {had}", family.name());
+    }
+}
+
+#[test]
+fn those_together_have_all_sizes_and_lengths_and_lie_everywhere() {
+    let mut sizes = [[0; 16]; 9];
+    let mut lengths = [[0; 16]; 9];
+    let mut alignments = [[0; 64]; 2];
+    for (case, load) in together() {
+        let stretch = Stretch::of(&load, &case.bench);
+        let in_ram = usize::from(stretch.lies_in(&case.bench.ram));
+        sizes[load.family as usize][row(case.word, load.family) as usize] += 1;
+        lengths[load.family as usize][(case.bench.vl / 128 - 1) as usize] += 1;
+        alignments[in_ram][(stretch.first % 64) as usize] += 1;
+    }
+    for family in Family::ALL {
+        let sizes = &sizes[family as usize][..rows(family) as usize];
+        assert!(sizes.iter().all(|had| *had >= 30), "{family:?} {sizes:?}");
+        let lengths = &lengths[family as usize][usize::from(family.is_ld1ro())..];
+        assert!(
+            lengths.iter().all(|had| *had >= 10),
+            "{family:?} {lengths:?}"
+        );
+    }
+    for had in alignments.iter().flatten() {
+        assert!(*had >= 10, "{alignments:?}");
+    }
+}
+
+#[test]
+fn every_family_meets_every_edge() {
+    let mut found = [[[0; Edge::ALL.len()]; 2]; 9];
+    for number in 0..CASES {
+        let case = case(SEED, number);
+        for edge in edges_of(&case) {
+            let family = Family::of(case.word).expect("a load");
+            let ran = usize::from(both(&case).report.answer == 0);
+            found[family as usize][ran][edge as usize] += 1;
+        }
+    }
+    for family in Family::ALL {
+        let [faulted, ran] = &found[family as usize];
+        let single = family.is_ld1r() || family == Family::Ld1rElement;
+        for (edge, (faulted, ran)) in Edge::ALL.into_iter().zip(faulted.iter().zip(ran)) {
+            let name = family.name();
+            let together = (edge as usize) <= Edge::AcrossPages as usize;
+            assert!(faulted + ran >= 3, "{name} {edge:?} {faulted} {ran}");
+            if together {
+                assert_eq!(*faulted, 0, "{name} {edge:?}");
+            } else if !single && edge != Edge::AcrossAreas {
+                // Whether the elements in question are active decides
+                assert!(*faulted > 0 && *ran > 0, "{name} {edge:?} {faulted} {ran}");
+            }
+        }
+    }
+}
+
+/// Which of the lanes of a predicate are active, and of how many a load consults.
+fn kind_of_predicate(active: &[bool], consulted: usize) -> usize {
+    let (own, beyond) = active.split_at(consulted);
+    let count = own.iter().filter(|lane| **lane).count();
+    let alternate = || own.windows(2).all(|lanes| lanes[0] != lanes[1]);
+    match count {
+        _ if count == consulted => 0,
+        0 if beyond.contains(&true) => 1,
+        0 => 2,
+        1 if own[consulted - 1] => 3,
+        1 => 4,
+        _ if count == consulted / 2 && own[..count] == vec![true; count] => 5,
+        _ if count == consulted / 2 && alternate() => 6,
+        _ => 7,
+    }
+}
+
+#[test]
+fn those_together_have_predicates_of_every_kind() {
+    let mut found = [[0; 8]; 9];
+    for (case, load) in together().filter(|(_, load)| !load.family.is_ld1r()) {
+        let mask = case.bench.predicate(load.g);
+        let active: Vec<bool> = (0..case.bench.vl / load.esize)
+            .map(|e| Right.active(mask, e, load.esize))
+            .collect();
+        let kind = kind_of_predicate(&active, load.lanes(case.bench.vl) as usize);
+        found[load.family as usize][kind] += 1;
+    }
+    for family in Family::ALL.into_iter().filter(|family| !family.is_ld1r()) {
+        let mut least = [200, 50, 80, 30, 30, 20, 20, 100];
+        if family.block().is_none() {
+            // There is no lane beyond those that are consulted
+            least[1] = 0;
+        }
+        let found = &found[family as usize];
+        let enough = found.iter().zip(least).all(|(had, least)| *had >= least);
+        assert!(enough, "{} {found:?}", family.name());
+    }
+}
+
+#[test]
+fn what_those_together_read_is_often_at_the_edges_of_the_sign() {
+    // By memory size: the largest number, the smallest, and minus one, where they are extended
+    let mut found = [[0; 3]; 3];
+    for (case, load) in together().filter(|(_, load)| !load.unsigned) {
+        let stretch = Stretch::of(&load, &case.bench);
+        let in_ram = stretch.lies_in(&case.bench.ram);
+        let area = if in_ram {
+            &case.bench.ram
+        } else {
+            &case.bench.flash
+        };
+        let first = area.offset_of(stretch.first).expect("it lies there");
+        let size = (load.msize / 8) as usize;
+        for element in area.bytes[first..first + stretch.length as usize].chunks(size) {
+            let (highest, others) = element.split_last().expect("some bytes");
+            let all = |byte: u8| others.iter().all(|other| *other == byte);
+            let kinds = [(0x7F, 0xFF), (0x80, 0x00), (0xFF, 0xFF)];
+            for (had, (top, rest)) in found[size.ilog2() as usize].iter_mut().zip(kinds) {
+                *had += u64::from(*highest == top && all(rest));
+            }
+        }
+    }
+    assert!(found.iter().flatten().all(|had| *had >= 100), "{found:?}");
+}
+
+#[test]
+fn no_byte_of_the_vector_file_is_zero_before() {
+    for (case, _) in together() {
+        assert!(!case.bench.z.contains(&0));
+    }
 }

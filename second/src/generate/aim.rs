@@ -47,11 +47,16 @@ pub fn base(rng: &mut Rng, load: &Load, bench: &mut Bench) {
         _ => rng.below(lanes),
     };
     let target = target(rng, load, bench);
+    put(load, bench, lane, target);
+}
+
+/// Sets the base so that this lane lies at this address.
+pub fn put(load: &Load, bench: &mut Bench, lane: u64, address: u64) {
     if load.family.is_scalar() && load.m == load.n {
-        let at_lane_0 = target.wrapping_sub(lane * (load.msize / 8));
+        let at_lane_0 = address.wrapping_sub(lane * (load.msize / 8));
         bench.x[load.n] = own_index(at_lane_0, load.msize / 8);
     } else {
-        bench.x[load.n] = target.wrapping_sub(distance(load, bench, lane));
+        bench.x[load.n] = address.wrapping_sub(distance(load, bench, lane));
     }
 }
 
@@ -79,7 +84,7 @@ fn target(rng: &mut Rng, load: &Load, bench: &Bench) -> u64 {
     let page = 1 + rng.below(area.pages_begun().saturating_sub(1));
     let border = area.start.wrapping_add(page * PAGE);
     let before = before(rng, load.msize / 8);
-    match rng.below(20) {
+    match rng.below(17) {
         0..=3 => (area.end() as u64).wrapping_sub(before),
         4 | 5 => area.start.wrapping_sub(before),
         6..=9 => border.wrapping_sub(before),
@@ -97,6 +102,21 @@ fn before(rng: &mut Rng, mbytes: u64) -> u64 {
         1 + rng.below(mbytes - 1)
     } else {
         rng.below(3 * mbytes + 1).wrapping_sub(mbytes)
+    }
+}
+
+/// Makes SP a multiple of 16, save now and then; an index takes over what it can, so that the elements
+/// stay where they are.
+pub fn steady_stack(rng: &mut Rng, load: &Load, bench: &mut Bench) {
+    let mbytes = load.msize / 8;
+    if load.family.is_scalar() && load.m < SP {
+        let taken = bench.x[SP] % 16 / mbytes;
+        bench.x[load.m] = bench.x[load.m].wrapping_add(taken);
+        bench.x[SP] -= taken * mbytes;
+    }
+    bench.x[SP] &= !15;
+    if rng.percent(12) {
+        bench.x[SP] |= rng.pick([1, 4, 8, 8]);
     }
 }
 

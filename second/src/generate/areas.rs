@@ -5,15 +5,28 @@ use crate::rng::Rng;
 
 /// 2^64 bytes in pages.
 const PAGES: u64 = 1 << 52;
+/// The longest area that is accepted.
+pub const LIMIT: u64 = 65_536;
 
 /// Flash and RAM, in either order of addresses.
 pub fn two(rng: &mut Rng) -> (Area, Area) {
     let mut first = contents(rng);
     let mut second = contents(rng);
+    let gap = gap(rng);
+    arrange(rng, &mut first, &mut second, gap);
+    rng.in_either_order(first, second)
+}
+
+/// How many pages lie between two areas: mostly none.
+pub fn gap(rng: &mut Rng) -> u64 {
+    rng.pick([0, 0, 0, 0, 0, 0, 1, 2, 1000, 1 << 40])
+}
+
+/// Gives two areas their starts: the second lies behind the first, which may be around 2^64.
+pub fn arrange(rng: &mut Rng, first: &mut Area, second: &mut Area, gap: u64) {
     let (first_pages, second_pages) = (first.pages_begun(), second.pages_begun());
     let page = place(rng, first_pages);
     first.start = page.wrapping_mul(PAGE);
-    let gap = rng.pick([0, 0, 0, 0, 0, 0, 1, 2, 1000, 1 << 40]);
     let behind = (page + first_pages + gap) % PAGES;
     // Where there is no room behind the first area it lies near the top, and page 0 is free
     let behind = if behind + second_pages > PAGES {
@@ -23,14 +36,9 @@ pub fn two(rng: &mut Rng) -> (Area, Area) {
     };
     second.start = behind.wrapping_mul(PAGE);
     if second.is_empty() && rng.percent(50) {
-        second.start = inside(rng, &first);
+        second.start = inside(rng, first);
     } else if first.is_empty() && rng.percent(50) {
-        first.start = inside(rng, &second);
-    }
-    if rng.percent(50) {
-        (first, second)
-    } else {
-        (second, first)
+        first.start = inside(rng, second);
     }
 }
 
@@ -66,10 +74,15 @@ fn contents(rng: &mut Rng) -> Area {
     }
 }
 
+/// A byte of rights: junk above bit 0, which is the read right.
+pub fn right(rng: &mut Rng, readable: bool) -> u8 {
+    rng.next_u64() as u8 & 0xFE | u8::from(readable)
+}
+
 /// Mostly up to three pages, whole pages often, the limit itself rarely.
 fn length(rng: &mut Rng) -> u64 {
-    if rng.per_mille(3) {
-        return 65_536 - rng.below(2);
+    if rng.per_mille(5) {
+        return LIMIT - rng.below(2);
     }
     match rng.below(20) {
         0 | 1 => 0,
@@ -87,15 +100,14 @@ fn length(rng: &mut Rng) -> u64 {
 fn rights(rng: &mut Rng, pages: u64) -> Vec<u8> {
     let manner = rng.below(20);
     let one = rng.below(pages);
-    let right = |page| {
-        let junk = rng.next_u64() as u8 & 0xFE;
+    let manner_of = |page| {
         let readable = match manner {
-            0..=10 => true,
-            11..=15 => rng.percent(60),
-            16..=18 => page != one,
+            0..=8 => true,
+            9..=14 => rng.percent(60),
+            15..=18 => page != one,
             _ => false,
         };
-        junk | u8::from(readable)
+        right(rng, readable)
     };
-    (0..pages).map(right).collect()
+    (0..pages).map(manner_of).collect()
 }

@@ -1,30 +1,37 @@
-//! Cases from a seed, biased to the edges. Most are accepted set-ups with a word of one of the
-//! nine families that reads near a border of something; some words miss a family by a little, and
-//! a few per cent of the set-ups are refused.
+//! Cases from a seed. In one half of them all elements lie together, most of those at an edge of an area
+//! or a page; the others read near a border of something and mostly fault or lie apart. Some words miss
+//! a family by a little, and a few per cent of the set-ups are refused.
 
 mod aim;
 mod areas;
+mod around;
 mod predicate;
 mod spoil;
+mod values;
 mod word;
 
 pub use aim::distance;
 
 use crate::cases::Case;
 use crate::decode::{decode, Load};
-use crate::machine::{Bench, PREDICATES, SCALARS, SP, VECTORS};
+use crate::machine::{Area, Bench, PREDICATES, SCALARS, SP, VECTORS};
 use crate::rng::Rng;
 use crate::rules::Right;
+
+/// How many of a hundred loads have an area laid around their elements.
+const AROUND: u64 = 68;
 
 /// The case with this number of this seed.
 pub fn case(seed: u64, number: u64) -> Case {
     let mut rng = Rng::new(seed, number);
-    let vl = vector_length(&mut rng);
     let mut word = word::of_a_family(&mut rng);
-    let mut bench = bench(&mut rng, vl);
+    let vl = vector_length(&mut rng);
+    let mut bench = files(&mut rng, vl);
     switches(&mut rng, &mut bench);
-    if let Ok(load) = decode(&Right, word, true) {
-        registers(&mut rng, &load, &mut bench);
+    match decode(&Right, word, true) {
+        Ok(load) if rng.percent(AROUND) => in_an_area(&mut rng, &load, &mut bench),
+        Ok(load) => near_a_border(&mut rng, &load, &mut bench),
+        Err(_) => (bench.flash, bench.ram) = areas::two(&mut rng),
     }
     if rng.percent(8) {
         word = word::near_miss(&mut rng, word);
@@ -53,19 +60,18 @@ fn vector_length(rng: &mut Rng) -> u64 {
     }
 }
 
-/// Files of the right sizes, full of old random bytes, and two areas.
-fn bench(rng: &mut Rng, vl: u64) -> Bench {
-    let (flash, ram) = areas::two(rng);
+/// Files of the right sizes, full of old bytes and numbers, and nothing to read yet.
+fn files(rng: &mut Rng, vl: u64) -> Bench {
     Bench {
         simd: true,
         sve: true,
         f64mm: true,
         vl,
-        z: rng.bytes((VECTORS * vl / 8) as usize),
+        z: values::old(rng, (VECTORS * vl / 8) as usize),
         p: rng.bytes((PREDICATES * vl / 64) as usize),
         x: (0..SCALARS).map(|_| rng.next_u64()).collect(),
-        flash,
-        ram,
+        flash: Area::default(),
+        ram: Area::default(),
     }
 }
 
@@ -76,18 +82,38 @@ fn switches(rng: &mut Rng, bench: &mut Bench) {
     }
 }
 
-/// Base, index and governing predicate, so that the load reads near an interesting place.
-fn registers(rng: &mut Rng, load: &Load, bench: &mut Bench) {
-    if rng.percent(20) {
-        // PC near the end of the numbers, so that its growth wraps
-        bench.x[SCALARS - 1] = 0_u64.wrapping_sub(rng.below(6));
-    }
+/// Areas of all kinds, and a lane of the load where something may go wrong.
+fn near_a_border(rng: &mut Rng, load: &Load, bench: &mut Bench) {
+    (bench.flash, bench.ram) = areas::two(rng);
     aim::index(rng, load, bench);
     aim::base(rng, load, bench);
     if load.n == SP {
         aim::align_stack(rng, &mut bench.x[SP]);
     }
+    registers(rng, load, bench);
+}
+
+/// An area laid around all elements of the load, so that they mostly lie together.
+fn in_an_area(rng: &mut Rng, load: &Load, bench: &mut Bench) {
+    aim::index(rng, load, bench);
+    let first = around::areas(rng, load, bench);
+    aim::put(load, bench, 0, first);
+    if load.n == SP {
+        aim::steady_stack(rng, load, bench);
+    }
+    registers(rng, load, bench);
+}
+
+/// The other registers that the load goes by, and what it finds.
+fn registers(rng: &mut Rng, load: &Load, bench: &mut Bench) {
+    if rng.percent(20) {
+        // PC near the end of the numbers, so that its growth wraps
+        bench.x[SCALARS - 1] = 0_u64.wrapping_sub(rng.below(6));
+    }
     if !load.family.is_ld1r() {
         predicate::govern(rng, load, bench);
+    }
+    if rng.percent(70) {
+        values::sign_edges(rng, load, bench);
     }
 }

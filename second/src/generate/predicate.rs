@@ -16,8 +16,13 @@ enum Manner {
     /// Only other bits of the groups.
     NoLane,
     OneLane,
+    /// The last lane of the block, or of all.
+    LastLane,
     /// Only lanes beyond the block, or the upper half.
     Beyond,
+    /// The lower half of the block or of all, or every second lane.
+    LowerHalf,
+    EverySecond,
     FirstLanes,
     SomeLanes,
     SomeOfBlock,
@@ -26,7 +31,7 @@ enum Manner {
 }
 
 /// A manner named more often comes more often.
-const MANNERS: [Manner; 20] = [
+const MANNERS: [Manner; 24] = [
     Manner::AsItWas,
     Manner::AsItWas,
     Manner::NoBit,
@@ -37,7 +42,11 @@ const MANNERS: [Manner; 20] = [
     Manner::NoLane,
     Manner::OneLane,
     Manner::OneLane,
+    Manner::LastLane,
     Manner::Beyond,
+    Manner::Beyond,
+    Manner::LowerHalf,
+    Manner::EverySecond,
     Manner::FirstLanes,
     Manner::SomeLanes,
     Manner::SomeOfBlock,
@@ -63,7 +72,10 @@ pub fn govern(rng: &mut Rng, load: &Load, bench: &mut Bench) {
             Manner::EveryBit | Manner::EveryLane => true,
             Manner::NoBit | Manner::NoLane => false,
             Manner::OneLane => e == chosen,
+            Manner::LastLane => e == lanes - 1,
             Manner::Beyond => e >= lanes || lanes == all && e >= all / 2,
+            Manner::LowerHalf => e < lanes / 2,
+            Manner::EverySecond => e % 2 == chosen % 2,
             Manner::FirstLanes => e <= chosen,
             Manner::SomeLanes => rng.percent(density),
             Manner::SomeOfBlock => e < lanes && rng.percent(density),

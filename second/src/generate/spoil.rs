@@ -1,5 +1,6 @@
 //! Set-ups that are refused: one thing is made wrong, now and then two.
 
+use super::values;
 use crate::machine::{Area, Bench, PAGE, PREDICATES, VECTORS};
 use crate::rng::Rng;
 
@@ -50,7 +51,7 @@ fn vector_length(rng: &mut Rng, bench: &mut Bench) {
         _ => vl.wrapping_add(rng.pick([1, u64::MAX, 8, 64, 128])),
     };
     if bench.vl <= 8192 && rng.percent(90) {
-        bench.z = rng.bytes((VECTORS * (bench.vl / 8)) as usize);
+        bench.z = values::old(rng, (VECTORS * (bench.vl / 8)) as usize);
         bench.p = rng.bytes((PREDICATES * (bench.vl / 64)) as usize);
     }
 }

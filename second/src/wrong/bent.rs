@@ -208,6 +208,24 @@ bent! {
         }
     }
 
+    LargestNegative:
+    fn extend(&self, data: u64, msize: u64, unsigned: bool) -> u64 {
+        if !unsigned && data == (1 << (msize - 1)) - 1 {
+            data | (u64::MAX << msize)
+        } else {
+            Right.extend(data, msize, unsigned)
+        }
+    }
+
+    SmallestPositive:
+    fn extend(&self, data: u64, msize: u64, unsigned: bool) -> u64 {
+        if data == 1 << (msize - 1) {
+            data
+        } else {
+            Right.extend(data, msize, unsigned)
+        }
+    }
+
     LanesAtMemorySize:
     fn element_lane_size(&self, msize: u64, _: u64) -> u64 {
         msize

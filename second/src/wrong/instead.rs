@@ -9,16 +9,16 @@ use crate::rules::{Right, Rules};
 const RAN: u8 = Answer::Ran as u8;
 const UNDEFINED: u8 = Answer::Undefined as u8;
 const SWITCHED_OFF: u8 = Answer::SwitchedOff as u8;
-const STACK: u8 = Answer::Stack as u8;
+pub const STACK: u8 = Answer::Stack as u8;
 const NO_MEMORY: u8 = Answer::NoMemory as u8;
-const DENIED: u8 = Answer::Denied as u8;
+pub const DENIED: u8 = Answer::Denied as u8;
 
 fn faulted(outcome: &Outcome) -> bool {
     matches!(outcome.report.answer, NO_MEMORY | DENIED)
 }
 
 /// The right outcome of a changed case.
-fn with(case: &Case, change: impl FnOnce(&mut Case)) -> Outcome {
+pub fn with(case: &Case, change: impl FnOnce(&mut Case)) -> Outcome {
     let mut case = case.clone();
     change(&mut case);
     case.into_outcome(&Right)
@@ -34,7 +34,7 @@ fn after(case: &Case, change: impl FnOnce(&Load, &mut Outcome)) -> Outcome {
 }
 
 /// The right outcome, changed if the load ran.
-fn after_ran(case: &Case, change: impl FnOnce(&Load, &mut Outcome)) -> Outcome {
+pub fn after_ran(case: &Case, change: impl FnOnce(&Load, &mut Outcome)) -> Outcome {
     after(case, |load, outcome| {
         if outcome.report.answer == RAN {
             change(load, outcome);
@@ -43,7 +43,7 @@ fn after_ran(case: &Case, change: impl FnOnce(&Load, &mut Outcome)) -> Outcome {
 }
 
 /// The right outcome; if the load ran, the destination's bytes before and after are handed over.
-fn destination(case: &Case, change: impl FnOnce(&Load, &[u8], &mut [u8])) -> Outcome {
+pub fn destination(case: &Case, change: impl FnOnce(&Load, &[u8], &mut [u8])) -> Outcome {
     after_ran(case, |load, outcome| {
         let size = (case.bench.vl / 8) as usize;
         let range = load.t * size..(load.t + 1) * size;
@@ -52,7 +52,7 @@ fn destination(case: &Case, change: impl FnOnce(&Load, &[u8], &mut [u8])) -> Out
 }
 
 /// The governing predicate's bytes, to be changed.
-fn mask<'a>(case: &'a mut Case, load: &Load) -> &'a mut [u8] {
+pub fn mask<'a>(case: &'a mut Case, load: &Load) -> &'a mut [u8] {
     let size = (case.bench.vl / 64) as usize;
     case.bench
         .p
@@ -60,13 +60,18 @@ fn mask<'a>(case: &'a mut Case, load: &Load) -> &'a mut [u8] {
         .unwrap_or_default()
 }
 
-fn active(case: &Case, load: &Load, e: u64) -> bool {
+pub fn active(case: &Case, load: &Load, e: u64) -> bool {
     Right.active(case.bench.predicate(load.g), e, load.esize)
 }
 
 /// Calls with each lane of the destination: its number in the block or vector that was loaded,
 /// its number in the register, and its bytes.
-fn each_lane(case: &Case, load: &Load, z: &mut [u8], mut call: impl FnMut(u64, u64, &mut [u8])) {
+pub fn each_lane(
+    case: &Case,
+    load: &Load,
+    z: &mut [u8],
+    mut call: impl FnMut(u64, u64, &mut [u8]),
+) {
     let lanes = load.lanes(case.bench.vl);
     let copies = case.bench.vl / load.esize / lanes;
     let size = (load.esize / 8) as usize;
@@ -91,7 +96,7 @@ pub fn inactive_keeps(case: &Case) -> Outcome {
 }
 
 /// The outcome with all lanes active, if the SVE load reads at all.
-fn all_active(case: &Case) -> Option<Outcome> {
+pub fn all_active(case: &Case) -> Option<Outcome> {
     let load = decode(&Right, case.word, case.bench.f64mm).ok()?;
     (!load.family.is_ld1r()).then(|| with(case, |case| mask(case, &load).fill(0xFF)))
 }
@@ -173,28 +178,6 @@ pub fn ld1r_keeps_z(case: &Case) -> Outcome {
     destination(case, |load, old, z| {
         if load.family.is_ld1r() {
             z[16..].copy_from_slice(&old[16..]);
-        }
-    })
-}
-
-pub fn copies_ask(case: &Case) -> Outcome {
-    destination(case, |load, _, z| {
-        if load.family.block().is_some() {
-            each_lane(case, load, z, |_, e, lane| {
-                if !active(case, load, e) {
-                    lane.fill(0);
-                }
-            });
-        }
-    })
-}
-
-pub fn left_over_filled(case: &Case) -> Outcome {
-    destination(case, |load, _, z| {
-        if load.family.is_ld1ro() {
-            let whole = z.len() / 32 * 32;
-            let rest = z.len() - whole;
-            z.copy_within(0..rest, whole);
         }
     })
 }
@@ -357,17 +340,6 @@ pub fn count_with_fault(case: &Case) -> Outcome {
     let mut outcome = case.outcome();
     outcome.report.count += u64::from(faulted(&outcome));
     outcome
-}
-
-pub fn count_of_copies(case: &Case) -> Outcome {
-    after_ran(case, |load, outcome| {
-        let lanes = load.lanes(case.bench.vl);
-        outcome.report.count *= match load.family {
-            Family::Ld1rElement => (0..lanes).filter(|e| active(case, load, *e)).count() as u64,
-            family if family.is_ld1r() => load.datasize / load.esize,
-            _ => case.bench.vl / load.esize / lanes,
-        };
-    })
 }
 
 pub fn first_address(case: &Case) -> Outcome {

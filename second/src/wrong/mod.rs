@@ -1,9 +1,12 @@
 //! Deliberately wrong interpreters. A set of cases is worth something if it tells each of them
 //! from the right one. A variant bends one small rule (`bent.rs`), or does something of its own
-//! with the right interpreter's help (`instead.rs`).
+//! with the right interpreter's help (`instead.rs`), for example with the copies of a block
+//! (`copies.rs`) or where all elements lie together (`stretch.rs`).
 
 mod bent;
+mod copies;
 mod instead;
+mod stretch;
 
 use crate::cases::{Case, Outcome};
 use crate::rules::Rules;
@@ -153,7 +156,15 @@ pub const VARIANTS: &[Variant] = &[
         "the count includes the faulting lane",
         instead::count_with_fault,
     ),
-    instead("the count of copies", instead::count_of_copies),
+    instead("LD1R counts its copies", copies::ld1r_counts_copies),
+    instead(
+        "LD1R by element counts its lanes",
+        copies::element_counts_lanes,
+    ),
+    instead(
+        "a block load counts all its copies",
+        copies::block_counts_copies,
+    ),
     instead(
         "a fault tells its element's first address",
         instead::first_address,
@@ -161,6 +172,14 @@ pub const VARIANTS: &[Variant] = &[
     // What is written
     bent("sign extension missing", &bent::NoSign),
     bent("sign extension from the bit below", &bent::SignBelow),
+    bent(
+        "the largest number of a size taken as negative",
+        &bent::LargestNegative,
+    ),
+    bent(
+        "the smallest number of a size taken as positive",
+        &bent::SmallestPositive,
+    ),
     bent(
         "LD1R by element: lanes at memory size",
         &bent::LanesAtMemorySize,
@@ -172,9 +191,19 @@ pub const VARIANTS: &[Variant] = &[
     ),
     instead(
         "copies of a block ask their own predicate bit",
-        instead::copies_ask,
+        copies::copies_ask,
     ),
-    instead("left-over bytes of LD1RO filled", instead::left_over_filled),
+    instead(
+        "a block asks the predicate bits of its second copy",
+        copies::bits_of_second_copy,
+    ),
+    instead("copies of a block a lane off", copies::copies_a_lane_off),
+    instead(
+        "copies of a block made from its second half",
+        copies::copies_of_second_half,
+    ),
+    instead("left-over bytes of LD1RO filled", copies::left_over_filled),
+    instead("left-over bytes of LD1RO kept", copies::left_over_kept),
     instead("post-index with Rm = 31 adds 1", instead::rm31_adds_1),
     instead(
         "post-index with Rm = 31 adds nothing",
@@ -189,4 +218,72 @@ pub const VARIANTS: &[Variant] = &[
     instead("PC + 0", instead::pc_stays),
     instead("PC stops at 2^64", instead::pc_stops),
     instead("PC grows after a fault", instead::pc_after_fault),
+    // Whether all elements lie together
+    instead(
+        "the right of the first page alone is asked",
+        stretch::right_of_first_page,
+    ),
+    instead(
+        "the right of the last page alone is asked",
+        stretch::right_of_last_page,
+    ),
+    instead(
+        "the right of the last byte is not asked",
+        stretch::last_byte_not_asked,
+    ),
+    instead(
+        "the right of the first byte is not asked",
+        stretch::first_byte_not_asked,
+    ),
+    instead(
+        "the page behind all elements is asked too",
+        stretch::page_behind_asked,
+    ),
+    instead(
+        "the page before all elements is asked too",
+        stretch::page_before_asked,
+    ),
+    instead(
+        "the bounds of the first byte alone are asked",
+        stretch::bounds_of_first_byte,
+    ),
+    instead(
+        "one byte past an area's end is read",
+        stretch::one_byte_past_the_area,
+    ),
+    instead("elements in two areas fault", stretch::one_area_alone),
+    // Where all elements lie together
+    instead(
+        "together: read from the other area",
+        stretch::from_the_other_area,
+    ),
+    instead(
+        "together: elements as far apart as lanes",
+        stretch::a_lane_apart,
+    ),
+    instead(
+        "together: an inactive lane keeps its old value",
+        stretch::inactive_keeps_together,
+    ),
+    instead(
+        "together: an inactive lane is filled",
+        stretch::inactive_filled_together,
+    ),
+    instead(
+        "together: inactive lanes are counted",
+        stretch::all_counted_together,
+    ),
+    instead(
+        "together: every lane has the sign of lane 0",
+        stretch::sign_of_lane_0,
+    ),
+    instead(
+        "together: the stack is not asked",
+        stretch::stack_not_asked_together,
+    ),
+    instead(
+        "together: base not written back",
+        stretch::base_stays_together,
+    ),
+    instead("together: PC + 0", stretch::pc_stays_together),
 ];

@@ -1,0 +1,141 @@
+//! The deliberately wrong variants about elements that lie together: wrong just where they should be.
+
+mod common;
+
+use common::*;
+use second::cases::Case;
+use second::generate::case;
+use second::machine::Bench;
+use second::sharp::sharp;
+use second::together::lies_together;
+use second::wrong::{Variant, VARIANTS};
+
+fn variant(name: &str) -> &'static Variant {
+    let mut variants = VARIANTS.iter();
+    variants
+        .find(|variant| variant.name == name)
+        .unwrap_or_else(|| panic!("no variant {name}"))
+}
+
+/// Whether LD1D (scalar plus immediate) on X0 tells a variant from the right interpreter.
+fn told(name: &str, bench: &Bench) -> bool {
+    let case = Case {
+        word: 0xA5E0_A000,
+        level: 0,
+        bench: bench.clone(),
+    };
+    variant(name).outcome(&case) != both(&case)
+}
+
+const FIRST_PAGE: &str = "the right of the first page alone is asked";
+const LAST_PAGE: &str = "the right of the last page alone is asked";
+const FIRST_BYTE: &str = "the right of the first byte is not asked";
+const LAST_BYTE: &str = "the right of the last byte is not asked";
+const BEFORE: &str = "the page before all elements is asked too";
+const BEHIND: &str = "the page behind all elements is asked too";
+const BOUNDS: &str = "the bounds of the first byte alone are asked";
+const ONE_PAST: &str = "one byte past an area's end is read";
+const TWO_AREAS: &str = "elements in two areas fault";
+
+/// Which of the variants about rights are told apart at VL 256, whose 32 bytes begin so far from the
+/// border of two pages, with these rights.
+fn told_by_rights(from_border: i64, rights: [u8; 2]) -> Vec<&'static str> {
+    let mut bench = bench(256);
+    bench.flash = area(FLASH, vec![0x5C; 2 * 4096]);
+    bench.flash.rights = rights.to_vec();
+    bench.x[0] = (FLASH + 4096).wrapping_add_signed(from_border);
+    let names = [FIRST_PAGE, LAST_PAGE, FIRST_BYTE, LAST_BYTE, BEFORE, BEHIND];
+    names
+        .into_iter()
+        .filter(|name| told(name, &bench))
+        .collect()
+}
+
+#[test]
+fn rights_that_are_not_asked_or_asked_too_often() {
+    const NONE: [&str; 0] = [];
+    for across in [-31, -16, -1] {
+        assert_eq!(told_by_rights(across, [1, 1]), NONE);
+        assert_eq!(told_by_rights(across, [0, 0]), NONE);
+    }
+    assert_eq!(told_by_rights(-16, [1, 0]), [FIRST_PAGE]);
+    assert_eq!(told_by_rights(-31, [1, 0]), [FIRST_PAGE, LAST_BYTE]);
+    assert_eq!(told_by_rights(-16, [0, 1]), [LAST_PAGE]);
+    assert_eq!(told_by_rights(-1, [0, 1]), [LAST_PAGE, FIRST_BYTE]);
+    assert_eq!(told_by_rights(-32, [1, 0]), [BEHIND]);
+    assert_eq!(told_by_rights(-33, [1, 0]), NONE);
+    assert_eq!(told_by_rights(0, [0, 1]), [BEFORE]);
+    assert_eq!(told_by_rights(1, [0, 1]), NONE);
+}
+
+#[test]
+fn bounds_that_are_not_asked() {
+    let names = [BOUNDS, ONE_PAST, TWO_AREAS];
+    let mut bench = bench(256);
+    bench.flash = area(FLASH, vec![0x5C; 4096]);
+    for (past, expected) in [(0, vec![]), (1, vec![BOUNDS, ONE_PAST]), (2, vec![BOUNDS])] {
+        bench.x[0] = FLASH + 4096 - 32 + past;
+        let told = names.into_iter().filter(|name| told(name, &bench));
+        assert_eq!(told.collect::<Vec<_>>(), expected);
+    }
+    bench.ram = area(FLASH + 4096, vec![0xC5; 4096]);
+    let told = names.into_iter().filter(|name| told(name, &bench));
+    assert_eq!(told.collect::<Vec<_>>(), [BOUNDS, TWO_AREAS]);
+}
+
+#[test]
+fn what_is_wrong_together_is_right_elsewhere() {
+    let together: Vec<&Variant> = VARIANTS
+        .iter()
+        .filter(|variant| variant.name.starts_with("together: "))
+        .collect();
+    assert!(together.len() >= 9);
+    for number in 0..3_000 {
+        let case = case(21, number);
+        let right = both(&case);
+        for variant in &together {
+            let stack = right.report.answer == 5 && variant.name.contains("stack");
+            if variant.outcome(&case) != right {
+                assert!(lies_together(&case) || stack, "{} {number}", variant.name);
+            }
+        }
+    }
+}
+
+#[test]
+fn those_about_elements_that_lie_together_are_told_soon() {
+    let soon = [
+        (FIRST_PAGE, 2_000),
+        (LAST_PAGE, 2_000),
+        (FIRST_BYTE, 4_000),
+        (LAST_BYTE, 4_000),
+        (BEFORE, 500),
+        (BEHIND, 500),
+        (BOUNDS, 500),
+        (ONE_PAST, 2_000),
+        (TWO_AREAS, 500),
+        ("the largest number of a size taken as negative", 500),
+        ("the smallest number of a size taken as positive", 500),
+        ("copies of a block a lane off", 100),
+        ("copies of a block made from its second half", 100),
+        ("a block asks the predicate bits of its second copy", 100),
+        ("copies of a block ask their own predicate bit", 100),
+        ("left-over bytes of LD1RO kept", 200),
+        ("LD1R counts its copies", 100),
+        ("LD1R by element counts its lanes", 200),
+        ("a block load counts all its copies", 100),
+        ("together: an inactive lane keeps its old value", 100),
+        ("denied page under an inactive lane faults", 500),
+    ];
+    for seed in [1, 2, 3] {
+        let told = sharp(seed, 4_000);
+        for (name, within) in soon {
+            let told = told.iter().find(|told| told.name == name);
+            let first = told.and_then(|told| told.by.as_ref()).map(|by| by.number);
+            assert!(
+                first.is_some_and(|first| first < within),
+                "{name} {first:?}"
+            );
+        }
+    }
+}
