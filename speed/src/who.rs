@@ -19,6 +19,8 @@ pub enum Who {
 
 impl Who {
     pub const ALL: [Who; 3] = [Who::Proved, Who::Plain, Who::Pages];
+    /// Those whose ratio is asked for.
+    pub const RATIO: [Who; 2] = [Who::Proved, Who::Plain];
 
     pub fn name(self) -> &'static str {
         match self {
