@@ -5,6 +5,7 @@
 //! which rows is `all` or `families`.
 
 mod check;
+mod clock;
 mod faults;
 mod input;
 mod rows;

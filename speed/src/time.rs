@@ -1,35 +1,36 @@
-//! Takes the time: in blocks that those who are measured make in turns.
+//! Takes the time: CPU time of this thread, in blocks that those who are measured make in turns.
 
+use crate::clock::{cpu, Watch};
 use crate::input::{Input, Step};
 use crate::rows::Question;
 use crate::table::Table;
 use crate::who::Who;
 use second::machine::Bench;
-use std::time::Instant;
 
 /// Blocks of each who is measured, in turns, and how long one lasts.
 const BLOCKS: usize = 15;
 const BLOCK_SECONDS: f64 = 0.010;
 
 pub fn time(questions: Vec<Question>) -> Result<String, String> {
-    let unit = "ns per step";
+    let watch = Watch::start();
+    let unit = "ns of CPU time per step";
     let table = Table::of(unit, questions, |row, who| {
         let Input { mut bench, steps } = Input::of(row);
         Ok(medians(who, &steps, &mut bench))
     })?;
-    let text = table.text();
+    let (busy, text) = (watch.line(), table.text());
     Ok(format!(
-        "measured: time, median of {BLOCKS} blocks of some 10 ms each, in turns\n\
-         {text}"
+        "measured: CPU time of the thread, median of {BLOCKS} blocks of some 10 ms each, in turns\n\
+         {busy}\n{text}"
     ))
 }
 
 /// Nanoseconds per step of each: the median of blocks in turns.
 fn medians(who: &[Who], steps: &[Step], bench: &mut Bench) -> Vec<f64> {
     let mut block = |who: Who, rounds: u64| {
-        let began = Instant::now();
+        let began = cpu();
         who.rounds(rounds, steps, bench);
-        began.elapsed().as_secs_f64()
+        cpu() - began
     };
     let mut rounds = |who: &Who| {
         // To warm the buffers up
