@@ -7,6 +7,7 @@
 mod check;
 mod clock;
 mod faults;
+mod host;
 mod input;
 mod rows;
 mod table;
