@@ -37,7 +37,7 @@ pub fn check(questions: &[Question]) -> Result<String, String> {
 }
 
 fn check_row(row: Row, ended: &mut [u64; 8]) -> Result<(), String> {
-    let Input { bench, steps } = Input::of(row);
+    let Input { bench, steps } = Input::of(row)?;
     let mut benches = Who::ALL.map(|_| bench.clone());
     for _ in 0..ROUNDS {
         for Step { word, n, base } in &steps {

@@ -8,8 +8,9 @@ use second::rng::Rng;
 use crate::faults;
 use crate::rows::{Lanes, Row, Set};
 
-/// How many words each family has.
+/// How many words each family has, and how many are tried for them: far more than it takes.
 pub const WORDS: usize = 256;
+const TRIES: usize = 1000 * WORDS;
 
 const SEED: u64 = 20_261_115;
 const PAGES: u64 = 4;
@@ -30,7 +31,7 @@ pub struct Input {
 }
 
 impl Input {
-    pub fn of(row: Row) -> Input {
+    pub fn of(row: Row) -> Result<Input, String> {
         let mut bench = bench(row.vl);
         match row.set {
             // What runs with all lanes active runs with any, so that the words stay the same
@@ -38,11 +39,11 @@ impl Input {
             Set::Faults => faults::deny(&mut bench),
             Set::Family(_) | Set::Mixed => {}
         }
-        let steps = steps(row, &bench);
+        let steps = steps(row, &bench)?;
         if let Set::Active(lanes) = row.set {
             activate(&mut bench, lanes);
         }
-        Input { bench, steps }
+        Ok(Input { bench, steps })
     }
 }
 
@@ -130,35 +131,39 @@ fn activate(bench: &mut Bench, lanes: Lanes) {
 }
 
 /// The words of each family of the row; if there are several, in one shuffled order.
-fn steps(row: Row, bench: &Bench) -> Vec<Step> {
+fn steps(row: Row, bench: &Bench) -> Result<Vec<Step>, String> {
     let families = row.families();
-    let mut steps: Vec<Step> = families
-        .iter()
-        .flat_map(|family| words(row, *family, bench))
-        .collect();
+    let words = families.iter().map(|family| words(row, *family, bench));
+    let mut steps = words.collect::<Result<Vec<_>, _>>()?.concat();
     if families.len() > 1 {
         let mut rng = Rng::new(SEED + 1 + Family::ALL.len() as u64, bench.vl);
         for last in (1..steps.len()).rev() {
             steps.swap(last, rng.below(last as u64 + 1) as usize);
         }
     }
-    steps
+    Ok(steps)
 }
 
 /// Words of a family with all fields random, kept if they end as the row says.
-fn words(row: Row, family: Family, bench: &Bench) -> Vec<Step> {
+fn words(row: Row, family: Family, bench: &Bench) -> Result<Vec<Step>, String> {
     let mut rng = Rng::new(SEED + 1 + family as u64, bench.vl);
     let pattern = family.pattern();
     let mut tried = bench.clone();
     let mut kept = Vec::new();
-    while kept.len() < WORDS {
+    for _ in 0..TRIES {
         let word = rng.next_u64() as u32 & !pattern.mask | pattern.value;
         kept.extend(match row.set {
             Set::Faults => faults::step(&mut rng, word, &mut tried),
             _ => runs(word, bench, &mut tried),
         });
+        if kept.len() == WORDS {
+            return Ok(kept);
+        }
     }
-    kept
+    let (found, name, vl) = (kept.len(), family.name(), bench.vl);
+    Err(format!(
+        "only {found} of {WORDS} words of {name} at VL {vl} end as the row says"
+    ))
 }
 
 /// The word with its base, if it runs.

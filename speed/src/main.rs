@@ -91,7 +91,7 @@ fn make_rounds(row: &str, who: &str, rounds: &str) -> Result<String, String> {
     let rows = measured(&rows::all());
     let (row, _) = *rows.get(number(row)? as usize).ok_or("no such row")?;
     let who = Who::ALL.into_iter().find(|known| known.name() == who);
-    let Input { mut bench, steps } = Input::of(row);
+    let Input { mut bench, steps } = Input::of(row)?;
     who.ok_or("no such one")?
         .rounds(number(rounds)?, &steps, &mut bench);
     Ok(String::new())

@@ -50,7 +50,7 @@ impl Table {
         };
         let unit = "executed x86-64 instructions per step";
         Table::of(unit, questions, |row, who| {
-            let made = rounds as f64 * Input::of(row).steps.len() as f64;
+            let made = rounds as f64 * Input::of(row)?.steps.len() as f64;
             who.iter().map(|_| Ok(difference()? / made)).collect()
         })
     }

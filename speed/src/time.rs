@@ -15,7 +15,7 @@ pub fn time(questions: Vec<Question>) -> Result<String, String> {
     let watch = Watch::start();
     let unit = "ns of CPU time per step";
     let table = Table::of(unit, questions, |row, who| {
-        let Input { mut bench, steps } = Input::of(row);
+        let Input { mut bench, steps } = Input::of(row)?;
         Ok(medians(who, &steps, &mut bench))
     })?;
     let (busy, text) = (watch.line(), table.text());
