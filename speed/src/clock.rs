@@ -5,8 +5,8 @@ use std::ffi::{c_int, c_long};
 use std::fs;
 use std::time::Instant;
 
-/// Above these the machine counts as busy: wall time as a multiple of this thread's CPU time, and how
-/// much of a core all others took.
+/// Above these the machine counts as busy: wall time as a multiple of this thread's CPU time, and the
+/// part of all cores that others took.
 const WALL: f64 = 1.05;
 const OTHERS: f64 = 0.10;
 
@@ -59,7 +59,7 @@ impl Watch {
         let mut said = format!("waited for a core for {:.1} of {wall:.1} s", wall - cpu);
         if let Some((then, now)) = self.ticks.zip(Ticks::now()) {
             let others = (now.busy_cores_since(then) - cpu / wall).max(0.0);
-            busy |= others > OTHERS;
+            busy |= others > OTHERS * now.cores as f64;
             said += &format!(", others took {others:.2} of {} cores", now.cores);
         }
         if !busy {
