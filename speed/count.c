@@ -5,11 +5,13 @@
 
 typedef uint64_t plugin_id;
 struct qemu_plugin_tb;
+struct qemu_plugin_insn;
 enum { ADD_U64 = 0 };
 
 void qemu_plugin_register_vcpu_tb_trans_cb(plugin_id id, void (*call)(plugin_id, struct qemu_plugin_tb *));
 size_t qemu_plugin_tb_n_insns(const struct qemu_plugin_tb *block);
-void qemu_plugin_register_vcpu_tb_exec_inline(struct qemu_plugin_tb *block, int operation, void *number, uint64_t by);
+struct qemu_plugin_insn *qemu_plugin_tb_get_insn(const struct qemu_plugin_tb *block, size_t at);
+void qemu_plugin_register_vcpu_insn_exec_inline(struct qemu_plugin_insn *one, int operation, void *number, uint64_t by);
 void qemu_plugin_register_atexit_cb(plugin_id id, void (*call)(plugin_id, void *), void *data);
 
 int qemu_plugin_version = 1;
@@ -17,11 +19,16 @@ int qemu_plugin_version = 1;
 /* One thread runs, so one number is enough. */
 static uint64_t executed;
 
-/* Asked once for each block when it is translated; the addition is made each time the block runs. */
+/* Asked once for each block when it is translated; an addition is made each time an instruction of it runs. One addition
+   for the whole block would be quicker, but an instruction across the end of a page is taken back and begins the next
+   block, so that it would count twice, and the count would depend on where the linker puts the code. */
 static void translated(plugin_id id, struct qemu_plugin_tb *block)
 {
+    size_t at, count = qemu_plugin_tb_n_insns(block);
+
     (void)id;
-    qemu_plugin_register_vcpu_tb_exec_inline(block, ADD_U64, &executed, qemu_plugin_tb_n_insns(block));
+    for (at = 0; at < count; at++)
+        qemu_plugin_register_vcpu_insn_exec_inline(qemu_plugin_tb_get_insn(block, at), ADD_U64, &executed, 1);
 }
 
 static void ended(plugin_id id, void *data)

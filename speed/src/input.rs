@@ -1,34 +1,54 @@
-//! What is measured: a bench for each VL, and for each family words that run on it.
+//! What is measured for a row: a bench, and words that end on it as the row says.
 
 use second::decode::Family;
 use second::machine::{Area, Bench, PAGE, SCALARS, SP};
 use second::plain;
 use second::rng::Rng;
 
-pub const LENGTHS: [u64; 2] = [512, 2048];
-/// How many words each family has.
+use crate::faults;
+use crate::rows::{Lanes, Row, Set};
+
+/// How many words each family has, and how many are tried for them: far more than it takes.
 pub const WORDS: usize = 256;
-/// The nine families, and last all of them mixed in one shuffled order.
-pub const SETS: usize = Family::ALL.len() + 1;
+const TRIES: usize = 1000 * WORDS;
 
 const SEED: u64 = 20_261_115;
 const PAGES: u64 = 4;
 const FLASH: u64 = 0x0800_0000;
 const RAM: u64 = 0x2000_0000;
 
-pub fn name(set: usize) -> &'static str {
-    Family::ALL.get(set).map_or("all mixed", |f| f.name())
-}
-
 /// A word with its base register and what that holds before the step: a post-index moves it.
+#[derive(Clone, Copy)]
 pub struct Step {
     pub word: u32,
     pub n: usize,
     pub base: u64,
 }
 
+pub struct Input {
+    pub bench: Bench,
+    pub steps: Vec<Step>,
+}
+
+impl Input {
+    pub fn of(row: Row) -> Result<Input, String> {
+        let mut bench = bench(row.vl);
+        match row.set {
+            // What runs with all lanes active runs with any, so that the words stay the same
+            Set::Active(_) => activate(&mut bench, Lanes::All),
+            Set::Faults => faults::deny(&mut bench),
+            Set::Family(_) | Set::Mixed => {}
+        }
+        let steps = steps(row, &bench)?;
+        if let Set::Active(lanes) = row.set {
+            activate(&mut bench, lanes);
+        }
+        Ok(Input { bench, steps })
+    }
+}
+
 /// Every page readable, every switch on.
-pub fn bench(vl: u64) -> Bench {
+fn bench(vl: u64) -> Bench {
     let mut rng = Rng::new(SEED, vl);
     Bench {
         simd: true,
@@ -52,7 +72,7 @@ fn area(rng: &mut Rng, start: u64) -> Area {
 }
 
 /// Odd registers hold an index, even ones and SP a base.
-fn is_index(number: usize) -> bool {
+pub fn is_index(number: usize) -> bool {
     number % 2 == 1 && number != SP
 }
 
@@ -95,34 +115,63 @@ fn predicates(rng: &mut Rng, size: usize) -> Vec<u8> {
     p
 }
 
-/// The words of a set with all fields random, kept if they run: all loads measured here run.
-pub fn steps(bench: &Bench, set: usize) -> Vec<Step> {
-    let mut rng = Rng::new(SEED + 1 + set as u64, bench.vl);
-    if let Some(family) = Family::ALL.get(set) {
-        let mut tried = bench.clone();
-        let step = |_| one(&mut rng, *family, bench, &mut tried);
-        return (0..WORDS).map(step).collect();
+/// The same in every predicate register, whatever the size of a lane: bit 0 is lane 0 of them all,
+/// and every other 64 bits are half of the lanes, in a block of 128 bits too.
+fn activate(bench: &mut Bench, lanes: Lanes) {
+    let size = (bench.vl / 64) as usize;
+    for (number, byte) in bench.p.iter_mut().enumerate() {
+        let at = number % size;
+        *byte = match lanes {
+            Lanes::One if at == 0 => 0x01,
+            Lanes::Half if at % 2 == 0 => 0xFF,
+            Lanes::All => 0xFF,
+            _ => 0,
+        };
     }
-    let mut mixed: Vec<Step> = (0..Family::ALL.len())
-        .flat_map(|family| steps(bench, family))
-        .collect();
-    for last in (1..mixed.len()).rev() {
-        mixed.swap(last, rng.below(last as u64 + 1) as usize);
-    }
-    mixed
 }
 
-fn one(rng: &mut Rng, family: Family, bench: &Bench, tried: &mut Bench) -> Step {
-    let pattern = family.pattern();
-    loop {
-        let word = rng.next_u64() as u32 & !pattern.mask | pattern.value;
-        let n = (word >> 5 & 31) as usize;
-        let base = bench.x[n];
-        tried.x[n] = base;
-        // A load of bytes runs with base and index exchanged too. But one store restores all that a
-        // post-index moves only if no base is ever an index
-        if !is_index(n) && plain::step(word, tried).answer == 0 {
-            return Step { word, n, base };
+/// The words of each family of the row; if there are several, in one shuffled order.
+fn steps(row: Row, bench: &Bench) -> Result<Vec<Step>, String> {
+    let families = row.families();
+    let words = families.iter().map(|family| words(row, *family, bench));
+    let mut steps = words.collect::<Result<Vec<_>, _>>()?.concat();
+    if families.len() > 1 {
+        let mut rng = Rng::new(SEED + 1 + Family::ALL.len() as u64, bench.vl);
+        for last in (1..steps.len()).rev() {
+            steps.swap(last, rng.below(last as u64 + 1) as usize);
         }
     }
+    Ok(steps)
+}
+
+/// Words of a family with all fields random, kept if they end as the row says.
+fn words(row: Row, family: Family, bench: &Bench) -> Result<Vec<Step>, String> {
+    let mut rng = Rng::new(SEED + 1 + family as u64, bench.vl);
+    let pattern = family.pattern();
+    let mut tried = bench.clone();
+    let mut kept = Vec::new();
+    for _ in 0..TRIES {
+        let word = rng.next_u64() as u32 & !pattern.mask | pattern.value;
+        kept.extend(match row.set {
+            Set::Faults => faults::step(&mut rng, word, &mut tried),
+            _ => runs(word, bench, &mut tried),
+        });
+        if kept.len() == WORDS {
+            return Ok(kept);
+        }
+    }
+    let (found, name, vl) = (kept.len(), family.name(), bench.vl);
+    Err(format!(
+        "only {found} of {WORDS} words of {name} at VL {vl} end as the row says"
+    ))
+}
+
+/// The word with its base, if it runs.
+fn runs(word: u32, bench: &Bench, tried: &mut Bench) -> Option<Step> {
+    let n = (word >> 5 & 31) as usize;
+    let base = bench.x[n];
+    tried.x[n] = base;
+    // A load of bytes runs with base and index exchanged too. But one store restores all that a
+    // post-index moves only if no base is ever an index
+    (!is_index(n) && plain::step(word, tried).answer == 0).then_some(Step { word, n, base })
 }
