@@ -13,7 +13,7 @@ use Rattle.loads.specs.declared.Answer.the-variants.{Ran}
 use Rattle.loads.specs.declared.Plan.{Plan}
 use Rattle.loads.specs.declared.StepResult.{StepResult}
 use Rattle.loads.proofs.Apart.{same-survey, same-register}
-use Rattle.loads.proofs.Walks.{many, walk-clear}
+use Rattle.loads.proofs.Walks.{walk-clear}
 use Rattle.bench.specs.Quick.{answersFrom, FillOut}
 use Rattle.bench.specs.Roads.{Loaded}
 

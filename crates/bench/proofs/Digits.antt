@@ -21,7 +21,6 @@ use Rattle.memory.specs.declared.Reading.{Reading}
 use Rattle.loads.specs.Outcomes.{extended, laneValue, registerByte}
 use Rattle.loads.specs.declared.Plan.{Plan}
 use lib.ListN.{length, take, drop}
-use Rattle.bench.specs.Quick.{widenedOf}
 
 -- the largest number of a size is at least half of it where the sign bit is 1
 pub sign-test : (s : Size) (v : ℕ) → ltb ((2 ^ (8 * bytesOf s) - 1) / 2) v ≡ leb (2 ^ (8 * bytesOf s - 1)) v
@@ -30,15 +29,9 @@ sign-test B16 v = refl
 sign-test B32 v = refl
 sign-test B64 v = refl
 
-some-numbers : (s : Size) → 0 < 2 ^ (8 * bytesOf s)
-some-numbers B8 = lit< tt
-some-numbers B16 = lit< tt
-some-numbers B32 = lit< tt
-some-numbers B64 = lit< tt
-
 -- what a lane has above a number of another size
 pub above : (s t : Size) → 2 ^ (8 * bytesOf t) - 1 - (2 ^ (8 * bytesOf s) - 1) ≡ 2 ^ (8 * bytesOf t) - 2 ^ (8 * bytesOf s)
-above s t = omega (arith, some-numbers s)
+above s t = omega (arith, pow-pos (8 * bytesOf s))
 
 module _ (answer : ℕ → Reading) (p : Plan) (pred : List ℕ) where
   -- byte j of lane l is what the definition has at its place in the register
@@ -92,10 +85,10 @@ module _ (m t : ℕ) (narrower : m ≤ t) (few : t ≤ 8) (v : ℕ) where
       let low = rw e at (mod-mod-pow (v + (2 ^ 64 - 2 ^ (8 * m))) (64 - 8 * t) (8 * t)) in
       rw pow-bytes (low ∙ rw apart (add-mul-mod-self-right (v + (2 ^ (8 * t) - 2 ^ (8 * m))) (rest - 1) (2 ^ (8 * t))))
 
-  pub widens : (signed : Bool) (j : ℕ) → j < t → widenedOf signed m v / 256 ^ j % 256 ≡ extended signed m t v / 256 ^ j % 256
-  unfolding widenedOf extended
+  pub widens : (signed : Bool) (j : ℕ) → j < t → wrap (extended signed m 8 v) / 256 ^ j % 256 ≡ extended signed m t v / 256 ^ j % 256
+  unfolding extended
   widens signed j h = go (signed && leb (2 ^ (8 * m - 1)) v)
     where
-      go : (b : Bool) → (if b then wrap (v + (2 ^ 64 - 2 ^ (8 * m))) else v) / 256 ^ j % 256 ≡ (if b then v + (2 ^ (8 * t) - 2 ^ (8 * m)) else v) / 256 ^ j % 256
+      go : (b : Bool) → wrap (if b then v + (2 ^ 64 - 2 ^ (8 * m)) else v) / 256 ^ j % 256 ≡ (if b then v + (2 ^ (8 * t) - 2 ^ (8 * m)) else v) / 256 ^ j % 256
       go true = sym (digit-mod (wrap (v + (2 ^ 64 - 2 ^ (8 * m)))) t j h) ∙ ap (λ (x : ℕ). x / 256 ^ j % 256) same-low ∙ digit-mod (v + (2 ^ (8 * t) - 2 ^ (8 * m))) t j h
-      go false = refl
+      go false = digit-mod v 8 j (omega arith)

@@ -9,7 +9,6 @@ use borrow.Author.Tests.{eq-eqb, ne-eqb}
 use lib.Dec.{eqb}
 use lib.ListN.{length, take, drop, take-append-drop}
 use Rattle.ground.specs.Choices.{if_then_else_}
-use Rattle.ground.specs.Lists.{replaced}
 use Rattle.ground.proofs.Fills.{back-in, part-length}
 use Rattle.ground.proofs.Laws.{true-or-false, all-of}
 use Rattle.memory.specs.Areas.{areasTaken}
@@ -17,7 +16,7 @@ use Rattle.memory.specs.declared.Reading.{Reading}
 use Rattle.loads.specs.Benches.{Lent, Bench, areas, acceptedTests, accepted}
 use Rattle.loads.specs.Answers.{numberOf, reportOf}
 use Rattle.loads.specs.Lanes.{governing}
-use Rattle.loads.specs.Outcomes.{answersOf, surveyOf, registerOf, scalarsAfter, benchAfter, outcomeOf}
+use Rattle.loads.specs.Outcomes.{answersOf, scalarsAfter, benchAfter, outcomeOf}
 use Rattle.loads.specs.Steps.{stackFails, planned, prepared, stepOf, StepPromise}
 use Rattle.loads.specs.declared.Answer.{Answer}
 use Rattle.loads.specs.declared.Answer.the-variants.{SetUp, Stack}

@@ -3,35 +3,33 @@ use mathlib.Core.Path.{_≡_, refl, sym, ap, _∙_}
 use mathlib.Core.Bool.{Bool, true, false}
 use mathlib.Core.List.{List, [], _∷_, _++_}
 use mathlib.Core.Logic.{⊎-elim}
-use Prim.Native.Nat.{ℕ, zero, suc, _+_, _-_, _*_, _/_, _%_, _^_, _≤_, _<_}
-use native.Mathlib.Nat.{zero-div, zero-mul, mul-assoc, mul-le-mul, add-mul-div-right, mul-add-mod-self-right, add-comm, div-eq-of-lt, div-lt-iff-lt-mul}
+use Prim.Native.Nat.{ℕ, zero, suc, _+_, _-_, _*_, _/_, _%_, _^_, _≤_, _<_, zero-le}
+use native.Mathlib.Nat.{zero-div, zero-mul, mul-assoc, mul-comm, add-mul-div-right, mul-add-mod-self-right, add-comm, div-eq-of-lt, div-lt-iff-lt-mul}
 use native.Mathlib.Omega.{arith}
 use borrow.Author.Tests.{ltb-true, ltb-false}
 use lib.Arith.{digits-div, digits-mod}
-use lib.Dec.{ltb}
+use lib.Dec.{ltb, lit<}
 use lib.ListN.{length, getD, take, drop}
 use Rattle.ground.specs.Choices.{if_then_else_}
 use Rattle.ground.specs.Lists.{listed, bytesAt}
 use Rattle.ground.proofs.Fills.{Filled, unfilled, one-filled, digits-filled, back-in}
-use Rattle.ground.proofs.Laws.{true-or-false, length-listed, getD-listed}
+use Rattle.ground.proofs.Laws.{true-or-false}
 use Rattle.loads.specs.Lanes.{bitOf}
 use Rattle.loads.proofs.Walks.{many}
-use Rattle.bench.specs.Quick.{widenedOf, laneFrom, byteFrom, LanesIn, LanesOut}
+use Rattle.plans.proofs.Shapes.{factor-some}
+use Rattle.memory.specs.Addresses.{wrap}
+use Rattle.loads.specs.Outcomes.{extended}
+use Rattle.bench.specs.Quick.{laneFrom, byteFrom, LanesIn, LanesOut, Zeroed}
 use Rattle.bench.proofs.Small.{slot}
-use Rattle.bench.proofs.Counts.{one, many-split, many-cong, many-none}
+use Rattle.bench.proofs.Many.{one, many-split, many-cong, many-none}
 
--- a lane is some bytes wide, and a chunk has some lanes, where a chunk is whole lanes
-pub wide : (width : ℕ) → 8 / width * width ≡ 8 → 0 < width
-wide zero e = absurd (omega arith)
-wide (suc w) e = omega arith
-
-pub some-lanes : (per width : ℕ) → per * width ≡ 8 → 0 < per
-some-lanes zero width e = absurd (omega (arith, zero-mul width))
-some-lanes (suc per) width e = omega arith
+-- a lane is some bytes wide where a chunk is whole lanes
+pub some-width : (width : ℕ) → 8 / width * width ≡ 8 → 0 < width
+some-width width e = factor-some width (8 / width) 8 (mul-comm width (8 / width) ∙ e) (lit< tt)
 
 -- no lane of n bytes is filled yet
-pub begun : (f : ℕ → ℕ) (w n : ℕ) (xs : List ℕ) → length xs ≡ n → Filled f w n xs 0
-begun f w n xs e = rw e at (unfilled f w xs)
+pub unfilled-of : (f : ℕ → ℕ) (w n : ℕ) (xs : List ℕ) → length xs ≡ n → Filled f w n xs 0
+unfilled-of f w n xs e = rw e at (unfilled f w xs)
 
 module _ (s : List ℕ) (from : ℕ) (bits : List ℕ) (stride : ℕ) (signed : Bool) (size width : ℕ) where
   -- ---- one lane more
@@ -41,7 +39,7 @@ module _ (s : List ℕ) (from : ℕ) (bits : List ℕ) (stride : ℕ) (signed : 
   lane-digit l v j e h = rw (e, digits-div l h, digits-mod l h)
 
   pub lane-turn : {n l : ℕ} {xs : List ℕ} → Filled (byteFrom s from bits stride signed size width) width n xs l → l * width + width ≤ n
-      → (on : Bool) → on ≡ bitOf bits (l * width) → (v : ℕ) → v ≡ (if on then widenedOf signed size (bytesAt s (from + l * stride) size) else 0)
+      → (on : Bool) → on ≡ bitOf bits (l * width) → (v : ℕ) → v ≡ (if on then wrap (extended signed size 8 (bytesAt s (from + l * stride) size)) else 0)
       → (ys : List ℕ) → ys ≡ listed (λ k. v / 256 ^ k % 256) 0 (length (take (l * width + width - l * width) (drop (l * width) xs)))
       → Filled (byteFrom s from bits stride signed size width) width n (take (l * width) xs ++ (ys ++ drop (l * width + width - l * width) (drop (l * width) xs))) (l + 1)
   unfolding laneFrom
@@ -61,29 +59,22 @@ module _ (s : List ℕ) (from stride : ℕ) (signed : Bool) (size width per : �
   unfolding byteFrom laneFrom
   byte-off i = rw (bit-off (i / width), zero-div)
 
-  pub chunk-off : (dst dst′ : List ℕ) → length dst ≡ 8 → dst′ ≡ listed (λ j. 0 / 256 ^ j % 256) 0 (length dst)
-      → LanesOut s from (0 ∷ []) stride signed size width 8 dst′ 0 per
-  chunk-off dst dst′ size e =
+  pub chunk-off : {dst dst′ : List ℕ} → length dst ≡ 8 → Zeroed dst dst′ 0 → LanesOut s from (0 ∷ []) stride signed size width 8 dst′ 0 per
+  chunk-off long z =
       record {
-        count = sym (many-cong (λ l. bitOf (0 ∷ []) (l * width)) (λ _. false) 0 per (λ j _ _. bit-off j) ∙ many-none 0 per);
-        filled =
-            record {
-              size = ap length e ∙ length-listed (λ j. 0 / 256 ^ j % 256) 0 (length dst) ∙ size;
-              so-far = λ i h.
-                  let k : i < length dst = rw (size, ← even) h in
-                  ap (λ (l : List ℕ). getD l i 0) e ∙ getD-listed (λ j. 0 / 256 ^ j % 256) 0 (length dst) i 0 k ∙ rw zero-div (sym (byte-off i));
-            };
+        lanes-on = sym (many-cong (λ l. bitOf (0 ∷ []) (l * width)) (λ _. false) 0 per (λ j _ _. bit-off j) ∙ many-none 0 per);
+        filled = record { size = z .long ∙ long; so-far = λ i h. z .zero i zero-le (rw (long, ← even) h) ∙ sym (byte-off i) };
       }
 
 -- ---- chunk c of a register: its lane j is lane c × per + j
 module _ (s bits : List ℕ) (stride : ℕ) (signed : Bool) (size width per c : ℕ) (even : per * width ≡ 8) (some : 0 < width) where
-  abbrev own : List ℕ
-  own = getD bits c 0 ∷ []
+  abbrev deciding : List ℕ
+  deciding = getD bits c 0 ∷ []
 
   abbrev start : ℕ
   start = c * (per * stride)
 
-  bit-on : (j : ℕ) → j < per → bitOf own (j * width) ≡ bitOf bits ((c * per + j) * width)
+  bit-on : (j : ℕ) → j < per → bitOf deciding (j * width) ≡ bitOf bits ((c * per + j) * width)
   unfolding bitOf
   bit-on j h =
       let low : j * width < 8 = omega (arith, slot j per width h) in
@@ -94,13 +85,13 @@ module _ (s bits : List ℕ) (stride : ℕ) (signed : Bool) (size width per c : 
       let y : j * width % 8 ≡ j * width = omega arith in
       rw (at, q, r, z, y)
 
-  lane-on : (j : ℕ) → j < per → laneFrom s start own stride signed size width j ≡ laneFrom s 0 bits stride signed size width (c * per + j)
+  lane-on : (j : ℕ) → j < per → laneFrom s start deciding stride signed size width j ≡ laneFrom s 0 bits stride signed size width (c * per + j)
   unfolding laneFrom
   lane-on j h =
       let at : 0 + (c * per + j) * stride ≡ start + j * stride = omega arith in
       rw (bit-on j h, at)
 
-  byte-on : (i : ℕ) → i < 8 → byteFrom s start own stride signed size width i ≡ byteFrom s 0 bits stride signed size width (c * 8 + i)
+  byte-on : (i : ℕ) → i < 8 → byteFrom s start deciding stride signed size width i ≡ byteFrom s 0 bits stride signed size width (c * 8 + i)
   unfolding byteFrom
   byte-on i h =
       let e : c * 8 + i ≡ i + c * per * width = omega (arith, ap (λ (x : ℕ). c * x) even) in
@@ -109,17 +100,17 @@ module _ (s bits : List ℕ) (stride : ℕ) (signed : Bool) (size width per c : 
       rw (e, q, r, lane-on (i / width) (div-lt-iff-lt-mul some .1 (rw even h)))
 
   pub chunk-turn : {n : ℕ} {xs : List ℕ} → Filled (byteFrom s 0 bits stride signed size width) 8 n xs c → c * 8 + 8 ≤ n → (ys : List ℕ)
-      → Filled (byteFrom s start own stride signed size width) width 8 ys per
+      → Filled (byteFrom s start deciding stride signed size width) width 8 ys per
       → Filled (byteFrom s 0 bits stride signed size width) 8 n (take (c * 8) xs ++ (ys ++ drop (c * 8 + 8 - c * 8) (drop (c * 8) xs))) (c + 1)
   chunk-turn {n} {xs} f fits ys r =
       rw (back-in xs ys ys (c * 8) 8 refl) (one-filled f ys (r .size) fits (λ j h. r .so-far j (rw even h) ∙ byte-on j h))
 
   -- the lanes that are on, in one chunk more
-  pub count-turn : many (λ l. bitOf bits (l * width)) 0 (c * per) + many (λ l. bitOf own (l * width)) 0 per ≡ many (λ l. bitOf bits (l * width)) 0 ((c + 1) * per)
+  pub count-turn : many (λ l. bitOf bits (l * width)) 0 (c * per) + many (λ l. bitOf deciding (l * width)) 0 per ≡ many (λ l. bitOf bits (l * width)) 0 ((c + 1) * per)
   count-turn =
       let e : (c + 1) * per ≡ c * per + per = omega arith in
       rw (e, many-split (λ l. bitOf bits (l * width)) (c * per) per)
-      (ap (λ (x : ℕ). many (λ l. bitOf bits (l * width)) 0 (c * per) + x) (many-cong (λ l. bitOf own (l * width)) (λ j. bitOf bits ((c * per + j) * width)) 0 per (λ j _ h. bit-on j (omega arith))))
+      (ap (λ (x : ℕ). many (λ l. bitOf bits (l * width)) 0 (c * per) + x) (many-cong (λ l. bitOf deciding (l * width)) (λ j. bitOf bits ((c * per + j) * width)) 0 per (λ j _ h. bit-on j (omega arith))))
 
 -- all chunks are all lanes
 pub chunks-filled : {f : ℕ → ℕ} {n chunks width : ℕ} {xs : List ℕ} (per : ℕ) → per * width ≡ 8 → Filled f 8 n xs chunks → Filled f width n xs (chunks * per)
@@ -141,7 +132,7 @@ module _ {s : List ℕ} {stride own size width n : ℕ} (w : LanesIn s 0 stride 
   chunk-in = record { even = w .even; some = w .some; small = w .small; near = w .near; room = omega (arith, w .even); inside = lane-of }
 
   pub start-in : c * (per * stride) ≤ length s
-  start-in = omega (arith, lane-of 0 (some-lanes per width (w .even)))
+  start-in = omega (arith, lane-of 0 (factor-some per width 8 (w .even) (lit< tt)))
 
   pub chunk-room : c * 8 + 8 ≤ n
   chunk-room =

@@ -6,7 +6,7 @@ pub mod Digits
 pub mod Ends
 pub mod Copies
 pub mod Together
-pub mod Counts
+pub mod Many
 pub mod Lanes
 pub mod Registers
 pub mod Nothing

@@ -3,15 +3,14 @@ use mathlib.Core.Path.{_≡_, sym, ap, _∙_}
 use mathlib.Core.Bool.{true}
 use mathlib.Core.List.{List}
 use mathlib.Core.Logic.{⊎-elim}
-use Prim.Native.Nat.{ℕ, _+_, _/_, _%_, _<_, zero-le}
+use Prim.Native.Nat.{ℕ, _/_, _%_, _<_, zero-le}
 use native.Mathlib.Nat.{zero-add, zero-div}
 use native.Mathlib.Omega.{arith}
 use lib.Dec.{ltb}
 use lib.ListN.{length}
-use Rattle.ground.specs.Lists.{listed, anyBelow}
 use Rattle.ground.specs.Sizes.{bytesOf}
 use Rattle.ground.proofs.Fills.{is-listed}
-use Rattle.ground.proofs.Laws.{never, off, any-of, listed-cong}
+use Rattle.ground.proofs.Laws.{never, off, any-of}
 use Rattle.memory.specs.Troubles.{Bad, nowhere, denied}
 use Rattle.memory.specs.declared.Reading.{Reading}
 use Rattle.loads.specs.Answers.{Report}
@@ -21,14 +20,14 @@ use Rattle.loads.specs.declared.Plan.{Plan}
 use Rattle.loads.proofs.Apart.{taken-wanted}
 use Rattle.loads.proofs.Walks.{many, number, walk-clear, walk-stopped, clear-or-stopped}
 use Rattle.bench.specs.Quick.{Zeroed}
-use Rattle.bench.specs.Roads.{Ran}
-use Rattle.bench.proofs.Counts.{any-many}
+use Rattle.bench.specs.Roads.{RanWith}
+use Rattle.bench.proofs.Many.{any-many}
 
 no-fault : (k : Bad) → number k ≡ 0 → ⊥
 no-fault nowhere e = omega arith
 no-fault denied e = omega arith
 
-module _ (answer : ℕ → Reading) (p : Plan) (pred : List ℕ) (some : 0 < p .elements) (r : Ran (surveyOf answer p pred) 0) where
+module _ (answer : ℕ → Reading) (p : Plan) (pred : List ℕ) (some : 0 < p .elements) (r : RanWith (surveyOf answer p pred) 0) where
   none-many : many (wanted p pred) 0 (p .elements) ≡ 0
   unfolding surveyOf asked
   none-many =

@@ -4,8 +4,8 @@ use mathlib.Core.Path.{_≡_, refl, sym, ap, _∙_}
 use mathlib.Core.Bool.{Bool, true, false}
 use mathlib.Core.List.{List, [], _∷_, _++_}
 use mathlib.Core.Logic.{⊎-elim}
-use Prim.Native.Nat.{ℕ, _+_, _-_, _*_, _/_, _%_, _^_, _≤_, _<_}
-use native.Mathlib.Nat.{le-refl, zero-add, one-mul, mul-zero, zero-mul, zero-div, mul-assoc, mul-pos, mod-le, mod-lt, mod-one, mod-mod, mod-eq-of-lt, mul-le-mul-right, le-div-iff-mul-le, div-lt-iff-lt-mul}
+use Prim.Native.Nat.{ℕ, _+_, _*_, _/_, _%_, _^_, _≤_, _<_}
+use native.Mathlib.Nat.{le-refl, zero-add, one-mul, mul-zero, zero-mul, zero-div, mul-assoc, mul-pos, mod-le, mod-lt, mod-one, mod-mod, mod-eq-of-lt, mul-div-cancel, mul-le-mul-right, le-of-mul-le-mul-right, le-div-iff-mul-le, div-lt-iff-lt-mul}
 use native.Mathlib.Omega.{arith}
 use borrow.Author.Tests.{lt-ltb, le-ltb, ltb-true, ltb-false}
 use lib.Arith.{mod-mul, digits-div, digits-mod}
@@ -15,10 +15,10 @@ use Rattle.ground.specs.Choices.{if_then_else_}
 use Rattle.ground.specs.Lists.{listed, anyBelow, bytesAt}
 use Rattle.ground.specs.Sizes.{bytesOf}
 use Rattle.ground.specs.declared.Size.{Size}
-use Rattle.ground.specs.declared.Size.the-variants.{B8, B16, B32, B64}
 use Rattle.ground.proofs.Fills.{Filled, is-listed}
 use Rattle.ground.proofs.Laws.{true-or-false, never, all-at, getD-listed}
 use Rattle.ground.proofs.Sizes.{bytes-some, bytes-few}
+use Rattle.memory.specs.Addresses.{wrap}
 use Rattle.memory.specs.declared.Reading.{Reading}
 use Rattle.loads.specs.Lanes.{bitOf, laneActive, wanted, takes}
 use Rattle.loads.specs.Outcomes.{extended, laneValue, registerByte, registerOf}
@@ -27,30 +27,29 @@ use Rattle.loads.specs.declared.Rule.{Rule}
 use Rattle.loads.specs.declared.Rule.the-variants.{Always, LaneBit, ElementBit}
 use Rattle.loads.proofs.Walks.{many}
 use Rattle.plans.specs.Shapes.{shapedBy, Shaped}
-use Rattle.bench.specs.Quick.{answersFrom, widenedOf, laneFrom, byteFrom, LanesIn, LanesOut, Copied, Zeroed, isAlways, ownOf, strideOf, bitsOf, countOf, ownIn, FillIn, OwnOut, FillOut}
+use Rattle.plans.proofs.Shapes.{whole-lanes, factor-some}
+use Rattle.bench.specs.Quick.{answersFrom, laneFrom, byteFrom, LanesIn, LanesOut, Copied, Zeroed, isAlways, ownOf, strideOf, bitsOf, countOf, ownIn, FillIn, OwnOut, FillOut}
 use Rattle.bench.proofs.Small.{slot}
 use Rattle.bench.proofs.Digits.{widens}
-use Rattle.bench.proofs.Counts.{any-many}
-use Rattle.bench.proofs.Lanes.{some-lanes}
+use Rattle.bench.proofs.Many.{any-many}
 
--- a chunk is whole lanes of every size, and whole chunks of lanes are those lanes
-pub whole-lanes : (s : Size) → 8 / bytesOf s * bytesOf s ≡ 8
-whole-lanes B8 = refl
-whole-lanes B16 = refl
-whole-lanes B32 = refl
-whole-lanes B64 = refl
+-- a chunk is whole lanes of every size, whole chunks of lanes are those lanes, and lanes of a chunk or more have one
+module _ (s : Size) where
+  abbrev b : ℕ
+  b = bytesOf s
 
-chunk-lanes : (s : Size) (k : ℕ) → k * bytesOf s % 8 ≡ 0 → k * bytesOf s / 8 * (8 / bytesOf s) ≡ k
-chunk-lanes B8 k h = omega arith
-chunk-lanes B16 k h = omega arith
-chunk-lanes B32 k h = omega arith
-chunk-lanes B64 k h = omega arith
+  pub chunk-whole : 8 / bytesOf s * bytesOf s ≡ 8
+  chunk-whole = whole-lanes s 8 refl
 
-chunk-fits : (s : Size) (k : ℕ) → 8 ≤ k * bytesOf s → 8 / bytesOf s ≤ k
-chunk-fits B8 k h = omega arith
-chunk-fits B16 k h = omega arith
-chunk-fits B32 k h = omega arith
-chunk-fits B64 k h = omega arith
+  chunk-lanes : (k : ℕ) → k * b % 8 ≡ 0 → k * b / 8 * (8 / b) ≡ k
+  chunk-lanes k h =
+      let all : k * b / 8 * 8 ≡ k * b = omega arith in
+      sym (mul-div-cancel (k * b / 8 * (8 / b)) (bytes-some s))
+      ∙ ap (λ (x : ℕ). x / b) (mul-assoc (k * b / 8) (8 / b) b ∙ ap (λ (x : ℕ). k * b / 8 * x) chunk-whole ∙ all)
+      ∙ mul-div-cancel k (bytes-some s)
+
+  chunk-fits : (k : ℕ) → 8 ≤ k * b → 8 / b ≤ k
+  chunk-fits k h = le-of-mul-le-mul-right (rw chunk-whole h) (bytes-some s)
 
 -- every bit of the byte that decides over a chunk of LD1R is 1
 all-on : (i : ℕ) → i < 8 → bitOf (255 ∷ []) i ≡ true
@@ -87,11 +86,11 @@ module _ (p : Plan) (pred : List ℕ) (some : 0 < p .elements) where
     always-told rule least =
         let fits = chunk-fits (p .lane) (p .filled) least in
         record {
-          some = omega (arith, some-lanes per w (whole-lanes (p .lane)));
+          some = omega (arith, factor-some per w 8 (chunk-whole (p .lane)) (lit< tt));
           room = omega arith;
           bit = λ l h.
               let k : l < p .filled = omega arith in
-              let low : l * w < 8 = omega (arith, slot l per w (omega arith), whole-lanes (p .lane), bytes-some (p .lane)) in
+              let low : l * w < 8 = omega (arith, slot l per w (omega arith), chunk-whole (p .lane), bytes-some (p .lane)) in
               rw (rule, lt-ltb l (p .filled) k) (sym (all-on (l * w) low));
           element = λ l h. rw rule (one-element l);
           far = λ l h. rw rule (one-far l);
@@ -168,7 +167,7 @@ module _ (p : Plan) (pred s : List ℕ) (narrower : bytesOf (p .size) ≤ bytesO
       v : ℕ
       v = bytesAt s (i / lane * strideOf (p .rule) (bytesOf (p .size))) (bytesOf (p .size))
 
-      go : (b : Bool) → (if b then widenedOf (p .signed) (bytesOf (p .size)) v else 0) / 256 ^ (i % lane) % 256
+      go : (b : Bool) → (if b then wrap (extended (p .signed) (bytesOf (p .size)) 8 v) else 0) / 256 ^ (i % lane) % 256
           ≡ (if b then extended (p .signed) (bytesOf (p .size)) lane v else 0) / 256 ^ (i % lane) % 256
       go true = widens (bytesOf (p .size)) lane narrower (bytes-few (p .lane)) v (p .signed) (i % lane) (mod-lt i (bytes-some (p .lane)))
       go false = refl
@@ -213,7 +212,7 @@ module _ {p : Plan} {pred s : List ℕ} {n : ℕ} (f : FillIn p pred s n) where
 
   -- as many bytes in lanes as in chunks
   pub same-bytes : ownIn p * (8 / bytesOf (p .lane)) * bytesOf (p .lane) ≡ ownIn p * 8
-  same-bytes = mul-assoc (ownIn p) (8 / bytesOf (p .lane)) (bytesOf (p .lane)) ∙ ap (λ (x : ℕ). ownIn p * x) (whole-lanes (p .lane))
+  same-bytes = mul-assoc (ownIn p) (8 / bytesOf (p .lane)) (bytesOf (p .lane)) ∙ ap (λ (x : ℕ). ownIn p * x) (chunk-whole (p .lane))
 
   own-room : ownIn p * 8 ≤ n
   own-room = omega (arith, same-bytes, mul-le-mul-right (bytesOf (p .lane)) (tells .room), f .fit .shaped .room)
@@ -224,7 +223,7 @@ module _ {p : Plan} {pred s : List ℕ} {n : ℕ} (f : FillIn p pred s n) where
   pub own-in : LanesIn s 0 (strideOf (p .rule) (bytesOf (p .size))) (ownIn p * (8 / bytesOf (p .lane))) (bytesOf (p .size)) (bytesOf (p .lane)) n
   own-in =
       record {
-        even = whole-lanes (p .lane);
+        even = chunk-whole (p .lane);
         some = bytes-some (p .size);
         small = bytes-few (p .size);
         near = near (p .rule);
@@ -249,7 +248,7 @@ module _ {p : Plan} {pred s : List ℕ} {n : ℕ} (f : FillIn p pred s n) where
         → Zeroed dst′ dst″ (p .filled * width) → r ≡ countOf (p .rule) on → FillOut p pred s n dst″ r
     filled-out out copied zeroed e =
         record {
-          count = e ∙ rw (out .count) (tells .count);
+          count = e ∙ rw (out .lanes-on) (tells .count);
           bytes = whole-register p pred s (f .fit .sound .narrower) tells (out .filled) (rw same-bytes (rw (o, w) at copied)) (rw w at zeroed);
         }
 
@@ -279,19 +278,19 @@ module _ {p : Plan} {pred s : List ℕ} {n : ℕ} (f : FillIn p pred s n) (rule 
     always-in =
         rw e
         record {
-          even = whole-lanes (p .size);
+          even = chunk-whole (p .size);
           some = bytes-some (p .size);
           small = bytes-few (p .size);
           near = lit≤ tt;
-          room = omega (arith, whole-lanes (p .size));
+          room = omega (arith, chunk-whole (p .size));
           inside = λ l h. rw (f .long, shape .0, mul-zero) (omega arith);
         }
 
     pub always-out : (xs : List ℕ) → length xs ≡ n → {ys : List ℕ} {on : ℕ} → LanesOut s 0 (255 ∷ []) 0 false b b 8 ys on (8 / b) → OwnOut p pred s n (ys ++ drop 8 xs) on
     always-out xs long r =
-        let own = rw e at r in
+        let out = rw e at r in
         rw (rule, shape .2, shape .3, one-mul)
-        record { count = own .count; filled = first-chunk xs (whole-lanes (p .size)) long always-room (own .filled) }
+        record { lanes-on = out .lanes-on; filled = first-chunk xs (chunk-whole (p .size)) long always-room (out .filled) }
 
 -- .. and all other
 other-bits : (r : Rule) (pred : List ℕ) → isAlways r ≡ false → bitsOf r pred ≡ pred

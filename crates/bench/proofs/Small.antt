@@ -7,6 +7,7 @@ use mir.Facts.{fits-below}
 use mir.Syntax.{w64}
 use mir.Val.{Fits}
 use Rattle.ground.specs.Sizes.{bytesOf}
+use Rattle.plans.proofs.Shapes.{whole-lanes}
 use Rattle.ground.specs.declared.Size.{Size}
 use Rattle.ground.specs.declared.Size.the-variants.{B8, B16, B32, B64}
 
@@ -19,12 +20,6 @@ small n B64 h = omega arith
 
 -- a register of whole 8 bytes is whole lanes of any size, and has room for each
 module _ (n l : ℕ) where
-  lanes-whole : (s : Size) → n % 8 ≡ 0 → n / bytesOf s ≤ l → n ≤ l * bytesOf s
-  lanes-whole B8 h k = omega arith
-  lanes-whole B16 h k = omega arith
-  lanes-whole B32 h k = omega arith
-  lanes-whole B64 h k = omega arith
-
   lane-room : (s : Size) → l < n / bytesOf s → (l * bytesOf s + bytesOf s ≤ n) × (l < n)
   lane-room B8 h = omega arith
   lane-room B16 h = omega arith
@@ -34,7 +29,7 @@ module _ (n l : ℕ) where
   -- .. of w bytes
   module _ {w : ℕ} (s : Size) (e : w ≡ bytesOf s) where
     pub whole : n % 8 ≡ 0 → n / w ≤ l → n ≤ l * w
-    whole = rw e (lanes-whole s)
+    whole h k = rw (← whole-lanes s n h, ← e) (mul-le-mul-right w k)
 
     pub room : l < n / w → (l * w + w ≤ n) × (l < n)
     room = rw e (lane-room s)

@@ -1,11 +1,11 @@
 -- A load whose elements lie together in a stretch: what the stretch says of them, and what the functions that fill from it promise. A
--- chunk is eight bytes of a register, over which one byte of the predicate decides. This file serves proofs alone, and nothing in it
--- has to be believed: the promise of `step` is StepPromise of loads.
-use Prim.Native.Nat.{ℕ, _+_, _-_, _*_, _/_, _%_, _^_, _≤_, _<_}
+-- chunk is eight bytes of a register, over which one byte of bits decides. This file serves proofs alone, and nothing in it has to be
+-- believed: the promise of `step` is StepPromise of loads.
+use Prim.Native.Nat.{ℕ, _+_, _*_, _/_, _%_, _^_, _≤_, _<_}
 use mathlib.Core.Path.{_≡_}
-use mathlib.Core.Bool.{Bool, true, false, _&&_}
+use mathlib.Core.Bool.{Bool, true, false}
 use mathlib.Core.List.{List, [], _∷_}
-use lib.Dec.{ltb, leb}
+use lib.Dec.{ltb}
 use lib.ListN.{length, getD}
 use Rattle.ground.specs.Choices.{if_then_else_}
 use Rattle.ground.specs.Lists.{bytesAt}
@@ -15,7 +15,7 @@ use Rattle.memory.specs.Addresses.{wrap}
 use Rattle.memory.specs.declared.Reading.{Reading}
 use Rattle.memory.specs.declared.Reading.the-variants.{Value}
 use Rattle.loads.specs.Lanes.{bitOf, wanted}
-use Rattle.loads.specs.Outcomes.{registerOf}
+use Rattle.loads.specs.Outcomes.{extended, registerOf}
 use Rattle.loads.specs.Sounds.{Sound}
 use Rattle.loads.specs.declared.Plan.{Plan}
 use Rattle.loads.specs.declared.Rule.{Rule}
@@ -27,14 +27,11 @@ use Rattle.plans.specs.Shapes.{Shaped}
 unfoldable pub answersFrom : List ℕ → Plan → ℕ → Reading
 answersFrom s p e = Value (bytesAt s (e * bytesOf (p .size)) (bytesOf (p .size)))
 
--- a number of n bytes in 64 bits: with its sign, or with zeros. A lane keeps as many of its bytes as it has
-unfoldable pub widenedOf : Bool → ℕ → ℕ → ℕ
-widenedOf signed n v = if signed && leb (2 ^ (8 * n - 1)) v then wrap (v + (2 ^ 64 - 2 ^ (8 * n))) else v
-
--- lanes that are filled from a stretch: lane l is on where its bit is 1, and then has the element l strides on from a place
+-- lanes that are filled from a stretch: lane l is on where its bit is 1, and then has the element l strides on from a place, extended to 64
+-- bits; it keeps as many of these bytes as it has
 module _ (s : List ℕ) (from : ℕ) (bits : List ℕ) (stride : ℕ) (signed : Bool) (size width : ℕ) where
   unfoldable pub laneFrom : ℕ → ℕ
-  laneFrom l = if bitOf bits (l * width) then widenedOf signed size (bytesAt s (from + l * stride) size) else 0
+  laneFrom l = if bitOf bits (l * width) then wrap (extended signed size 8 (bytesAt s (from + l * stride) size)) else 0
 
   unfoldable pub byteFrom : ℕ → ℕ
   byteFrom i = laneFrom (i / width) / 256 ^ (i % width) % 256
@@ -50,7 +47,7 @@ pub record LanesIn (s : List ℕ) (from stride lanes size width n : ℕ) : Type 
 
 -- .. and what is left of n bytes, with the number of lanes that are on
 pub record LanesOut (s : List ℕ) (from : ℕ) (bits : List ℕ) (stride : ℕ) (signed : Bool) (size width n : ℕ) (dst : List ℕ) (on lanes : ℕ) : Type 0 where
-  pub count : on ≡ many (λ l. bitOf bits (l * width)) 0 lanes
+  pub lanes-on : on ≡ many (λ l. bitOf bits (l * width)) 0 lanes
   pub filled : Filled (byteFrom s from bits stride signed size width) width n dst lanes
 
 -- the first bytes of a list, over and over, up to an end
@@ -64,8 +61,8 @@ pub record Zeroed (dst dst′ : List ℕ) (from : ℕ) : Type 0 where
   pub kept : (i : ℕ) → i < from → getD dst′ i 0 ≡ getD dst i 0
   pub zero : (i : ℕ) → from ≤ i → i < length dst → getD dst′ i 0 ≡ 0
 
--- by the rule: whether it is LD1R's; the chunks that are filled from the stretch, the rest being copies of them; how far apart their
--- elements lie; the bits that decide; and the count of reads, from the number of lanes that are on
+-- by the rule: whether it is LD1R's; the register's own chunks, which are filled from the stretch, while the rest is copies of them and
+-- zeros; how far apart their elements lie; the bits that decide; and the count of reads, from the number of lanes that are on
 abbrev pub isAlways : Rule → Bool
 isAlways Always = true
 isAlways LaneBit = false
@@ -99,7 +96,7 @@ pub record Fit (p : Plan) (pred : List ℕ) (n : ℕ) : Type 0 where
   pub whole : n % 8 ≡ 0
   pub decided : n ≤ 8 * length pred
 
--- the chunks of a plan that are filled from the stretch
+-- a register's own chunks, of a plan
 abbrev pub ownIn : Plan → ℕ
 ownIn p = ownOf (p .rule) (p .elements) (p .filled) (bytesOf (p .lane))
 

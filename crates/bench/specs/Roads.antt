@@ -25,6 +25,6 @@ module _ (answer : ℕ → Reading) (p : Plan) (pred : List ℕ) where
     pub vectors : z′ ≡ (if eqb (numberOf (r .answer)) 0 then replaced z (p .target * n) n (registerOf answer p pred n) else z)
 
 -- a report of a load that ran, with its count
-pub record Ran (r : Report) (count : ℕ) : Type 0 where
+pub record RanWith (r : Report) (count : ℕ) : Type 0 where
   pub number : r .number ≡ 0
   pub counted : r .count ≡ count

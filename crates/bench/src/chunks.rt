@@ -1,7 +1,8 @@
-// Lanes that are filled from a stretch of memory, chunk by chunk: a chunk is eight bytes of a register, over which one byte of the
-// predicate decides. `taken` is the one place of the quick road where a byte of memory is fetched, and it fetches none for a lane that
-// is off.
+// Lanes that are filled from a stretch of memory, chunk by chunk: a chunk is eight bytes of a register, over which one byte decides, of the
+// predicate, or with every bit 1 for LD1R, which has none. The quick road fetches bytes of memory in `whole` alone, which `lane_from`
+// alone calls, for a lane that is on: no byte of an inactive lane is fetched.
 use crate::actives;
+use crate::fills;
 ghost use mathlib.Core.Path.{_≡_};
 ghost use mathlib.Core.Bool.{false};
 ghost use mathlib.Core.List.{[], _∷_};
@@ -9,9 +10,11 @@ ghost use Prim.Native.Nat.{_+_, _*_, _/_, _≤_, _<_};
 ghost use lib.ListN.{length};
 ghost use Rattle.ground.specs.Choices.{if_then_else_};
 ghost use Rattle.ground.specs.Lists.{bytesAt};
-ghost use Rattle.bench.specs.Quick.{widenedOf, LanesIn, LanesOut};
+ghost use Rattle.memory.specs.Addresses.{wrap};
+ghost use Rattle.loads.specs.Outcomes.{extended};
+ghost use Rattle.bench.specs.Quick.{LanesIn, LanesOut};
 
-// The number that n bytes make from a place on, all of them there.
+// The number that n bytes make from a place on: `ground::number` without its tests, since all of them are there.
 fn whole(s: &[u8], at: usize, n: usize) -> u64
     requires { ⌜ (n ≤ 8) × (at + n ≤ length (now s)) ⌝ }
     ensures { λ r. ⌜ r ≡ bytesAt (now (s .entry)) at n ⌝ }
@@ -28,20 +31,20 @@ fn whole(s: &[u8], at: usize, n: usize) -> u64
 // A number of so many bytes in 64 bits. A signed one from half of its numbers on is negative, and all bits above it are 1.
 fn widened(signed: bool, size: usize, v: u64) -> u64
     requires { ⌜ (0 < size) × (size ≤ 8) ⌝ }
-    ensures { λ r. ⌜ r ≡ widenedOf signed size v ⌝ }
+    ensures { λ r. ⌜ r ≡ wrap (extended signed size 8 v) ⌝ }
 {
     let half: u64 = 1 << (8 * size - 1);
     if signed & (half <= v) {
         let largest = half - 1 + half;
-        return std::num::wrapping_add_u64(v, 18446744073709551615 - largest);
+        return std::num::wrapping_add_u64(v, 0xffff_ffff_ffff_ffff - largest);
     }
     v
 }
 
 // What a lane becomes: where it is on, the element at a place, widened; and else zero, with no byte looked at.
-fn taken(on: bool, stretch: &[u8], at: usize, signed: bool, size: usize) -> u64
+fn lane_from(on: bool, stretch: &[u8], at: usize, signed: bool, size: usize) -> u64
     requires { ⌜ (0 < size) × (size ≤ 8) × (at + size ≤ length (now stretch)) ⌝ }
-    ensures { λ r. ⌜ r ≡ (if on then widenedOf signed size (bytesAt (now (stretch .entry)) at size) else 0) ⌝ }
+    ensures { λ r. ⌜ r ≡ (if on then wrap (extended signed size 8 (bytesAt (now (stretch .entry)) at size)) else 0) ⌝ }
 {
     if on {
         return widened(signed, size, whole(stretch, at, size));
@@ -49,15 +52,15 @@ fn taken(on: bool, stretch: &[u8], at: usize, signed: bool, size: usize) -> u64
     0
 }
 
-// 1 where it is on.
+// A lane that is on as a number: 1, and 0 where it is off.
 pub(crate) fn one_if(on: bool) -> u64
     ensures { λ r. ⌜ r ≡ (if on then 1 else 0) ⌝ }
 {
     if on { 1 } else { 0 }
 }
 
-// Fills a chunk from the elements that lie so many strides on from a place, by the byte of the predicate that decides over it, and counts
-// the lanes that are on. Where no bit of that byte is 1, it is zero at once.
+// Fills a chunk from the elements that lie so many strides on from a place, by the byte that decides over it, and counts the lanes that
+// are on. Where no bit of that byte is 1, it is zero at once.
 fn chunk(
     dst: &mut [u8],
     stretch: &[u8],
@@ -72,23 +75,23 @@ fn chunk(
     ensures { λ r. ⌜ LanesOut (now (stretch .entry)) from (byte ∷ []) stride signed size width 8 (now (dst .exit)) r (8 / width) ⌝ }
 {
     if byte == 0 {
-        ground::put(dst, 0);
+        fills::zeros(dst, 0);
         return 0;
     }
     let bits = [byte; 1];
     let lanes = 8 / width;
-    let mut count: u64 = 0;
+    let mut lanes_on: u64 = 0;
     let mut l = 0;
     while l < lanes {
         let at = l * width;
         let end = at + width;
         let on = actives::active(&bits, at as u64);
-        let v = taken(on, stretch, from + l * stride, signed, size);
+        let v = lane_from(on, stretch, from + l * stride, signed, size);
         ground::put(&mut dst[at..end], v);
-        count += one_if(on);
+        lanes_on += one_if(on);
         l += 1;
     }
-    count
+    lanes_on
 }
 
 // Fills so many chunks, one after the other.
@@ -105,16 +108,16 @@ fn chunks(
     requires { ⌜ (LanesIn (now stretch) 0 stride (own * (8 / width)) size width (length (now dst))) × (own ≤ 32) × (own ≤ length (now bits)) ⌝ }
     ensures { λ r. ⌜ LanesOut (now (stretch .entry)) 0 (now (bits .entry)) stride signed size width (length (now (dst .entry))) (now (dst .exit)) r (own * (8 / width)) ⌝ }
 {
-    let step = 8 / width * stride;
-    let mut count: u64 = 0;
+    let chunk_stride = 8 / width * stride;
+    let mut lanes_on: u64 = 0;
     let mut c = 0;
     while c < own {
         let at = c * 8;
         let end = at + 8;
-        count += chunk(
+        lanes_on += chunk(
             &mut dst[at..end],
             stretch,
-            c * step,
+            c * chunk_stride,
             bits[c],
             stride,
             signed,
@@ -123,7 +126,7 @@ fn chunks(
         );
         c += 1;
     }
-    count
+    lanes_on
 }
 
 // The same, with a call for each row of sizes, so that in each the sizes and the sign are constants: sign, lane and memory size in bytes

@@ -46,7 +46,7 @@ fn always(rule: Rule) -> bool
     }
 }
 
-// The chunks that are filled from the stretch; the others are copies of them.
+// How many chunks are a register's own, filled from the stretch; the rest is copies of them and zeros.
 fn own_of(rule: Rule, elements: usize, filled: usize, width: usize) -> usize
     requires { ⌜ (elements ≤ 256) × (filled ≤ 256) × (width ≤ 8) ⌝ }
     ensures { λ r. ⌜ r ≡ ownOf rule elements filled width ⌝ }
@@ -70,17 +70,17 @@ fn stride_of(rule: Rule, size: usize) -> usize
 }
 
 // The count of reads, of so many lanes that are on.
-fn counted(rule: Rule, on: u64) -> u64
-    ensures { λ r. ⌜ r ≡ countOf rule on ⌝ }
+fn counted(rule: Rule, lanes_on: u64) -> u64
+    ensures { λ r. ⌜ r ≡ countOf rule «lanes_on» ⌝ }
 {
     match rule {
         Rule::Always => 1,
-        Rule::LaneBit => chunks::one_if(0 < on),
-        Rule::ElementBit => on,
+        Rule::LaneBit => chunks::one_if(0 < lanes_on),
+        Rule::ElementBit => lanes_on,
     }
 }
 
-// Fills the chunks that are filled from the stretch, and counts their lanes that are on.
+// Fills a register's own chunks from the stretch, and counts their lanes that are on.
 fn own_lanes(
     dst: &mut [u8],
     stretch: &[u8],
@@ -94,16 +94,25 @@ fn own_lanes(
 {
     let rule = plan.rule;
     let size = plan.size;
-    let bytes = size.bytes() as usize;
+    let element_bytes = size.bytes() as usize;
     if always(rule) {
-        return chunks::replicated(&mut dst[0..8], stretch, bytes);
+        return chunks::replicated(&mut dst[0..8], stretch, element_bytes);
     }
-    let stride = stride_of(rule, bytes);
-    chunks::sized(dst, stretch, pred, stride, own, plan.signed, bytes, width)
+    let stride = stride_of(rule, element_bytes);
+    chunks::sized(
+        dst,
+        stretch,
+        pred,
+        stride,
+        own,
+        plan.signed,
+        element_bytes,
+        width,
+    )
 }
 
-// Fills a register from a stretch that has every element, and counts the reads: first the chunks of its own, then their copies, then
-// zeros. Nothing can fault.
+// Fills a register from a stretch that has every element, and counts the reads: its own chunks, then their copies, then zeros. Nothing
+// can fault.
 pub(crate) fn fill(dst: &mut [u8], stretch: &[u8], pred: &[u8], plan: Plan) -> u64
     requires { ⌜ FillIn plan (now pred) (now stretch) (length (now dst)) ⌝ }
     ensures { λ r. ⌜ FillOut plan (now (pred .entry)) (now (stretch .entry)) (length (now (dst .entry))) (now (dst .exit)) r ⌝ }
@@ -114,8 +123,8 @@ pub(crate) fn fill(dst: &mut [u8], stretch: &[u8], pred: &[u8], plan: Plan) -> u
     let filled = plan.filled as usize;
     let own = own_of(rule, plan.elements as usize, filled, width);
     let end = filled * width;
-    let on = own_lanes(dst, stretch, pred, plan, own, width);
+    let lanes_on = own_lanes(dst, stretch, pred, plan, own, width);
     blocks(dst, own * 8, end);
     fills::zeros(dst, end);
-    counted(rule, on)
+    counted(rule, lanes_on)
 }

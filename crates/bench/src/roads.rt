@@ -17,7 +17,7 @@ ghost use Rattle.memory.specs.Said.{Taken};
 ghost use Rattle.loads.specs.Outcomes.{answersIn, surveyOf, registerOf};
 ghost use Rattle.loads.specs.Sounds.{Sound};
 ghost use Rattle.bench.specs.Quick.{Fit};
-ghost use Rattle.bench.specs.Roads.{Loaded, Targeted, Ran};
+ghost use Rattle.bench.specs.Roads.{Loaded, Targeted, RanWith};
 
 // What a load that ran writes, element by element: where it read nothing, zeros.
 fn written(
@@ -33,7 +33,7 @@ fn written(
 )
     requires { ⌜ Sound plan ⌝ }
     requires { ⌜ (length (now dst) ≤ 256) × (length (now dst) % 8 ≡ 0) ⌝ }
-    requires { ⌜ Ran (surveyOf (answersIn (areasOf map (now flash) (now «flash_rights») (now ram) (now «ram_rights»)) plan) plan (now pred)) count ⌝ }
+    requires { ⌜ RanWith (surveyOf (answersIn (areasOf map (now flash) (now «flash_rights») (now ram) (now «ram_rights»)) plan) plan (now pred)) count ⌝ }
     ensures { λ _. ⌜ now (dst .exit) ≡ registerOf (answersIn (areasOf map (now (flash .entry)) (now («flash_rights» .entry)) (now (ram .entry)) (now («ram_rights» .entry))) plan) plan (now (pred .entry)) (length (now (dst .entry))) ⌝ }
 {
     if count == 0 {
@@ -93,9 +93,17 @@ fn load<'a>(
     ensures { λ r. ⌜ Loaded (answersIn (areasOf map (now (flash .entry)) (now («flash_rights» .entry)) (now (ram .entry)) (now («ram_rights» .entry))) plan) plan (now (pred .entry)) (now (dst .entry)) r (now (dst .exit)) ⌝ }
 {
     let size = plan.size;
-    let bytes = (plan.elements * size.bytes()) as usize;
-    let stretch = stretches::find(map, flash, flash_rights, ram, ram_rights, plan.start, bytes);
-    if stretch.len() == bytes {
+    let all_bytes = (plan.elements * size.bytes()) as usize;
+    let stretch = stretches::find(
+        map,
+        flash,
+        flash_rights,
+        ram,
+        ram_rights,
+        plan.start,
+        all_bytes,
+    );
+    if stretch.len() == all_bytes {
         let count = quick::fill(dst, stretch, pred, plan);
         return ended(count, Answer::Ran);
     }

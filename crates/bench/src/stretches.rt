@@ -1,4 +1,4 @@
-// Whether bytes lie together: whole in one area, on pages that may be read. Bounds and rights are looked at here, and no byte.
+// A stretch: bytes that lie together, whole in one area and on pages that may be read. Bounds and rights are looked at here, and no byte.
 use memory::Address;
 use memory::Map;
 ghost use mathlib.Core.Path.{_≡_};

@@ -22,7 +22,7 @@ longer i false true xs ys h = h
 longer i false false xs ys h = h
 
 -- one more place, at the end
-many-more : (want : ℕ → Bool) (i n : ℕ) → many want i (suc n) ≡ (if want (i + n) then suc (many want i n) else many want i n)
+pub many-more : (want : ℕ → Bool) (i n : ℕ) → many want i (suc n) ≡ (if want (i + n) then suc (many want i n) else many want i n)
 many-more want i zero = rw add-zero (go (want i))
   where
     go : (t : Bool) → length (if t then i ∷ [] else []) ≡ (if t then 1 else 0)

@@ -1,9 +1,9 @@
 -- Every plan of a word is shaped so, at every vector length that is accepted.
-use mathlib.Core.Path.{_≡_, refl, sym, ap, _∙_}
+use mathlib.Core.Path.{_≡_, refl}
 use mathlib.Core.Bool.{Bool, true, false, _&&_}
 use mathlib.Core.List.{List}
-use Prim.Native.Nat.{ℕ, _*_, _/_, _%_, _≤_, _<_}
-use native.Mathlib.Nat.{one-mul, mul-assoc, mul-le-mul-right}
+use Prim.Native.Nat.{ℕ, zero, suc, _*_, _/_, _%_, _≤_, _<_}
+use native.Mathlib.Nat.{zero-mul, one-mul, mul-assoc, mul-le-mul-right, div-div-eq-div-mul}
 use native.Mathlib.Omega.{arith}
 use borrow.Author.Tests.{ltb-false}
 use lib.Dec.{eqb, ltb, lit≤}
@@ -20,40 +20,35 @@ use Rattle.loads.specs.Steps.{isWide, planned}
 use Rattle.loads.specs.declared.Plan.{Plan}
 use Rattle.loads.specs.declared.Planned.the-variants.{Go}
 use Rattle.loads.specs.declared.Settings.{Settings}
+use Rattle.loads.proofs.Actives.{block-bytes}
 use Rattle.plans.specs.Shapes.{Shaped}
 use Rattle.plans.proofs.Prepares.{planned-each}
 
--- a vector is whole lanes of each size, and has some
+-- bytes of whole chunks are whole lanes of each size
+pub whole-lanes : (s : Size) (n : ℕ) → n % 8 ≡ 0 → n / bytesOf s * bytesOf s ≡ n
+whole-lanes B8 n h = omega arith
+whole-lanes B16 n h = omega arith
+whole-lanes B32 n h = omega arith
+whole-lanes B64 n h = omega arith
+
+-- .. and so is a vector, which has some
 vector : (s : Size) (vl : ℕ) → vl % 128 ≡ 0 → lanesIn vl s * bytesOf s ≡ vl / 8
-vector B8 vl h = omega arith
-vector B16 vl h = omega arith
-vector B32 vl h = omega arith
-vector B64 vl h = omega arith
+vector s vl h =
+    let whole : vl / 8 % 8 ≡ 0 = omega arith in
+    rw (← div-div-eq-div-mul vl 8 (bytesOf s)) (whole-lanes s (vl / 8) whole)
 
-some-lane : (s : Size) (vl : ℕ) → 128 ≤ vl → 0 < lanesIn vl s
-some-lane B8 vl h = omega arith
-some-lane B16 vl h = omega arith
-some-lane B32 vl h = omega arith
-some-lane B64 vl h = omega arith
-
--- .. and so are bytes of whole chunks
-chunks : (s : Size) (n : ℕ) → n % 8 ≡ 0 → n / bytesOf s * bytesOf s ≡ n
-chunks B8 n h = omega arith
-chunks B16 n h = omega arith
-chunks B32 n h = omega arith
-chunks B64 n h = omega arith
+-- a factor of some is some
+pub factor-some : (k w n : ℕ) → k * w ≡ n → 0 < n → 0 < k
+factor-some zero w n e h = absurd (omega (arith, zero-mul w))
+factor-some (suc k) w n e h = omega arith
 
 -- LD1R fills 8 or 16 bytes
 replicates : (b : Bool) → (8 ≤ (if b then 16 else 8)) × ((if b then 16 else 8) ≤ 16) × (_≡_ {A = ℕ} ((if b then 16 else 8) % 8) 0)
 replicates true = (lit≤ tt, lit≤ tt, refl)
 replicates false = (lit≤ tt, lit≤ tt, refl)
 
--- a block is whole chunks, and goes into a register, LD1RO's into one of 256 bits
-block-whole : (wide : Bool) → _≡_ {A = ℕ} (blockBytes wide % 8) 0
-block-whole true = refl
-block-whole false = refl
-
 module _ (vl : ℕ) (multiple : vl % 128 ≡ 0) (least : 128 ≤ vl) where
+  -- a block goes into a register, LD1RO's into one of 256 bits
   block-in : (wide : Bool) → (wide && ltb vl 256) ≡ false → (vl / (8 * blockBytes wide) * blockBytes wide ≤ vl / 8) × (1 ≤ vl / (8 * blockBytes wide))
   block-in true long = let l = ltb-false vl 256 long in (omega arith, omega arith)
   block-in false long = (omega arith, omega arith)
@@ -63,21 +58,21 @@ module _ (vl : ℕ) (multiple : vl % 128 ≡ 0) (least : 128 ≤ vl) where
   shaped x (Replicate q size back rn rt) long =
       let r = replicates (eqb q 1) in
       let n : ℕ = if eqb q 1 then 16 else 8 in
-      let e = chunks (sizeOf size) n (r .2) in
+      let e = whole-lanes (sizeOf size) n (r .2) in
       record { room = rw e (omega (arith, r .1)); shape = (refl, rw e (r .0), refl, refl) }
   shaped x (ByElement dtype imm6 pg rn zt) long =
       let e = vector (dtypeOf dtype .lane) vl multiple in
-      record { room = rw e (omega arith); shape = (refl, some-lane (dtypeOf dtype .lane) vl least, rw e (omega arith)) }
+      record { room = rw e (omega arith); shape = (refl, factor-some (lanesIn vl (dtypeOf dtype .lane)) (bytesOf (dtypeOf dtype .lane)) (vl / 8) e (omega arith), rw e (omega arith)) }
   shaped x (Contiguous dtype offset pg rn zt) long =
       let e = vector (dtypeOf dtype .lane) vl multiple in
       record { room = rw e (omega arith); shape = (omega arith, rw e (omega arith)) }
   shaped x (Block wide msz offset pg rn zt) long =
       let b = block-in wide long in
       let k = blockBytes wide / bytesOf (sizeOf msz) in
-      let e = chunks (sizeOf msz) (blockBytes wide) (block-whole wide) in
+      let e = whole-lanes (sizeOf msz) (blockBytes wide) (block-bytes wide .0) in
       record {
         room = rw (mul-assoc, e) (b .0);
-        shape = (omega (arith, one-mul k, mul-le-mul-right k (b .1)), rw e (block-whole wide));
+        shape = (omega (arith, one-mul k, mul-le-mul-right k (b .1)), rw e (block-bytes wide .0));
       }
 
 pub planned-shaped : (s : Settings) (x : List ℕ) → s .vl % 128 ≡ 0 → 128 ≤ s .vl → (w : ℕ) (p : Plan) → planned s x w ≡ Go p → Shaped p (s .vl / 8)

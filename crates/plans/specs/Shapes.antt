@@ -1,5 +1,5 @@
--- What every plan is, beyond `Sound`, in a register of n bytes: one element for all its lanes, or one for each of the first ones; and the
--- lanes that are not copies of others are whole chunks of eight bytes. This file serves proofs alone: what a load does is `planOf` of loads.
+-- What every plan is, beyond `Sound`, in a register of n bytes: what a fill of it by chunks of eight bytes needs. One element for all lanes,
+-- or one for each of the first ones, and these lanes are whole chunks. This file serves proofs alone: what a load does is `planOf` of loads.
 use Prim.Native.Nat.{ℕ, _*_, _%_, _≤_, _<_}
 use mathlib.Core.Path.{_≡_}
 use mathlib.Core.Bool.{false}

@@ -3,7 +3,7 @@
 use mathlib.Core.Path.{_≡_, refl, sym, ap, _∙_}
 use mathlib.Core.List.{[], _∷_}
 use Prim.Native.Nat.{ℕ, _+_, _-_, _*_, _/_, _≤_, _<_, zero-le}
-use native.Mathlib.Nat.{le-refl, le-trans, le-of-lt, le-of-eq, le-add-right, div-le-self}
+use native.Mathlib.Nat.{le-refl, le-trans, le-of-eq, le-add-right, div-le-self}
 use native.Mathlib.Omega.{arith}
 use borrow.Author.Needs.{needs}
 use denote.Ref.{now}
@@ -16,17 +16,17 @@ use Rattle.loads.specs.Lanes.{bitOf}
 use Rattle.loads.proofs.Walks.{many}
 use Rattle.bench.specs.Quick.{byteFrom}
 use Rattle.bench.proofs.Small.{slot, next, less}
-use Rattle.bench.proofs.Counts.{many-next, next-most}
-use Rattle.bench.proofs.Lanes.{wide, begun, chunk-off, lane-turn}
+use Rattle.bench.proofs.Many.{many-next, next-most}
+use Rattle.bench.proofs.Lanes.{some-width, unfilled-of, chunk-off, lane-turn}
 use Rattle.bench.proofs.chunks.chunk.Statement.{statement}
 use Rattle.bench.proofs.chunks.chunk.Tie as tie
 
 abbrev Inv-loop : tie.InvT-loop
-Inv-loop dst₀ stretch from byte stride signed size width bits lanes count₀ l₀ dst count l =
-    (l ≤ lanes) × (count ≡ many (λ k. bitOf (byte ∷ []) (k * width)) 0 l) × Filled (byteFrom stretch from (byte ∷ []) stride signed size width) width 8 dst l
+Inv-loop dst₀ stretch from byte stride signed size width bits lanes on₀ l₀ dst on l =
+    (l ≤ lanes) × (on ≡ many (λ k. bitOf (byte ∷ []) (k * width)) 0 l) × Filled (byteFrom stretch from (byte ∷ []) stride signed size width) width 8 dst l
 
 abbrev μ-loop : tie.MeasureT-loop
-μ-loop dst₀ stretch from byte stride signed size width bits lanes count₀ l₀ dst count l = lanes - l
+μ-loop dst₀ stretch from byte stride signed size width bits lanes on₀ l₀ dst on l = lanes - l
 
 -- in a turn: the function's entry, the lane, its room in the chunk, and its element
 module _ (t : tie.In-loop Inv-loop μ-loop) where
@@ -58,9 +58,9 @@ chunk-spec =
     (λ c.
     let g = c .before .before .before .before .before .before .before in
     let z = c .before .before .before .before .if1 .taken in
-    rw z (chunk-off (now (g .args .stretch)) (g .args .from) (g .args .stride) (g .args .signed) (g .args .size) (g .args .width) _ (g .pre .1 .even) (now (g .args .dst)) _ (g .pre .0) (c .before .before .put .ensures)))
-    (λ c. wide _ (c .before .before .before .pre .1 .even))
-    (λ c. (zero-le, refl, begun _ _ _ _ (c .before .before .before .pre .0)))
+    rw z (chunk-off (now (g .args .stretch)) (g .args .from) (g .args .stride) (g .args .signed) (g .args .size) (g .args .width) _ (g .pre .1 .even) (g .pre .0) (c .before .before .zeros .ensures)))
+    (λ c. some-width _ (c .before .before .before .pre .1 .even))
+    (λ c. (zero-le, refl, unfilled-of _ _ _ _ (c .before .before .before .pre .0)))
     (λ c. small c (le-add-right _ _)) (λ c. small c (le-refl _))
     (λ c. refl) (λ c κs. tt)
     (λ c. near (c .before .before) (omega arith)) (λ c. near (c .before .before) (le-refl _))
@@ -78,10 +78,10 @@ chunk-spec =
     let a = c .before .before .before .before .before .before .active .ensures in (
       next (t .loop-test .taken),
       rw (c .one-if .ensures, a, t .before .loop .inv .1) (many-next (λ k. bitOf (g t .args .byte ∷ []) (k * g t .args .width)) (l t)),
-      lane-turn _ _ _ _ _ _ _ (t .before .loop .inv .2) (room t) _ a _ (c .before .before .before .before .before .taken .ensures) _ (c .before .before .before .put2 .ensures),
+      lane-turn _ _ _ _ _ _ _ (t .before .loop .inv .2) (room t) _ a _ (c .before .before .before .before .before .lane-from .ensures) _ (c .before .before .before .put .ensures),
     ))
     (λ c. c .before .loop .inv .2 .size ∙ sym (c .before .before .before .before .before .pre .0))
     (λ c.
     let u = c .before .loop in
     let e : u .l ≡ 8 / c .before .before .before .before .before .args .width = omega (arith, u .inv .0, c .loop-test .left) in
-    record { count = u .inv .1 ∙ ap (many _ 0) e; filled = rw e at (u .inv .2) }))
+    record { lanes-on = u .inv .1 ∙ ap (many _ 0) e; filled = rw e at (u .inv .2) }))

@@ -1,6 +1,5 @@
 -- `counted` meets its contract, by the rule.
 use mathlib.Core.Path.{_∙_}
-use borrow.Author.Needs.{needs}
 use Rattle.bench.proofs.quick.counted.Statement.{statement}
 use Rattle.bench.proofs.quick.counted.Tie as tie
 

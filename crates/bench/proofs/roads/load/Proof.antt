@@ -5,7 +5,6 @@ use native.Mathlib.Nat.{le-trans, mul-pos}
 use borrow.Author.Needs.{needs}
 use denote.Ref.{now}
 use lib.Dec.{lit≤}
-use lib.ListN.{length}
 use mir.Facts.{fits-below}
 use Rattle.ground.specs.Sizes.{bytesOf}
 use Rattle.ground.proofs.Sizes.{bytes-some}

@@ -1,5 +1,5 @@
 -- `one_by_one` meets its contract: a survey that is clear is carried out, and any other changes nothing.
-use mathlib.Core.Path.{_≡_, sym, ap, _∙_}
+use mathlib.Core.Path.{sym, ap, _∙_}
 use borrow.Author.Needs.{needs}
 use borrow.Author.Tests.{eq-eqb, ne-eqb}
 use Rattle.loads.specs.Answers.{Report}

@@ -1,17 +1,16 @@
 -- How many of a row of tests hold: one more, in two parts, and some exactly where one does.
-use mathlib.Core.Path.{_≡_, refl, sym, ap, _∙_}
+use mathlib.Core.Path.{_≡_, refl, sym, _∙_}
 use mathlib.Core.Bool.{Bool, true, false, _||_, or-true, or-false}
-use mathlib.Core.List.{[], _∷_}
 use Prim.Native.Nat.{ℕ, zero, suc, _+_, _≤_, _<_}
-use native.Mathlib.Nat.{zero-add, add-zero, add-suc, add-comm}
+use native.Mathlib.Nat.{zero-add, add-zero, add-suc}
 use native.Mathlib.Numerals.{add-one}
 use native.Mathlib.Omega.{arith}
 use borrow.Author.Tests.{lt-ltb}
 use lib.Dec.{ltb}
-use lib.ListN.{length}
 use Rattle.ground.specs.Choices.{if_then_else_}
-use Rattle.ground.specs.Lists.{upFrom, anyBelow}
+use Rattle.ground.specs.Lists.{anyBelow}
 use Rattle.loads.proofs.Walks.{many}
+use Rattle.loads.proofs.Counts.{many-more, many-most}
 
 -- 1 where a test holds
 abbrev pub one : Bool → ℕ
@@ -21,21 +20,13 @@ pub one-most : (b : Bool) → one b ≤ 1
 one-most true = omega arith
 one-most false = omega arith
 
--- a test in front
-first : (f : ℕ → Bool) (i n : ℕ) → many f i (suc n) ≡ one (f i) + many f (i + 1) n
-first f i n = go (f i)
-  where
-    go : (b : Bool) → length (if b then i ∷ upFrom f (i + 1) n else upFrom f (i + 1) n) ≡ one b + many f (i + 1) n
-    go true = omega arith
-    go false = sym (zero-add _)
-
--- .. and behind
+-- one more, at the end
 more : (f : ℕ → Bool) (i n : ℕ) → many f i (suc n) ≡ many f i n + one (f (i + n))
-more f i zero = first f i 0 ∙ rw (add-zero, add-zero) (sym (zero-add (one (f i))))
-more f i (suc n) =
-    let place : f (i + 1 + n) ≡ f (i + suc n) = ap f (omega arith) in
-    let rest = rw place at (more f (i + 1) n) in
-    rw (first f i (suc n), rest, first f i n) (omega arith)
+more f i n = many-more f i n ∙ go (f (i + n))
+  where
+    go : (b : Bool) → (if b then suc (many f i n) else many f i n) ≡ many f i n + one b
+    go true = omega arith
+    go false = sym (add-zero _)
 
 pub many-next : (f : ℕ → Bool) (n : ℕ) → many f 0 n + one (f n) ≡ many f 0 (n + 1)
 many-next f n = let e : 0 + n ≡ n = zero-add n in rw add-one (rw e at (sym (more f 0 n)))
@@ -50,12 +41,8 @@ many-split f a (suc b) =
 pub many-cong : (f g : ℕ → Bool) (i n : ℕ) → ((j : ℕ) → i ≤ j → j < i + n → f j ≡ g j) → many f i n ≡ many g i n
 many-cong f g i zero h = refl
 many-cong f g i (suc n) h =
-    let rest = many-cong f g (i + 1) n (λ j l m. h j (omega arith) (omega arith)) in
-    rw (first f i n, first g i n, h i (omega arith) (omega arith), rest)
-
-pub many-most : (f : ℕ → Bool) (i n : ℕ) → many f i n ≤ n
-many-most f i zero = omega arith
-many-most f i (suc n) = rw (first f i n) (omega (arith, one-most (f i), many-most f (i + 1) n))
+    let less = many-cong f g i n (λ j l m. h j l (omega arith)) in
+    rw (more f i n, more g i n, h (i + n) (omega arith) (omega arith), less)
 
 -- one more of n is no more than one more
 pub next-most : (f : ℕ → Bool) (n : ℕ) (b : Bool) → many f 0 n + one b ≤ n + 1
