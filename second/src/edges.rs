@@ -57,15 +57,10 @@ impl Edge {
     ];
 
     /// Those of elements that do not lie together.
-    pub const MISSED: [Edge; 7] = [
-        Edge::BeforeArea,
-        Edge::PastArea,
-        Edge::BeforeReadable,
-        Edge::PastReadable,
-        Edge::FirstDenied,
-        Edge::LastDenied,
-        Edge::AcrossAreas,
-    ];
+    pub const MISSED: &'static [Edge] = {
+        let all: &[Edge] = &Edge::ALL;
+        all.split_at(9).1
+    };
 
     /// Whether a stretch that lies in the area, all readable, meets this edge of it.
     fn met(self, stretch: Stretch, area: &Area) -> bool {

@@ -119,7 +119,7 @@ pub fn all_cells() -> Vec<Cell> {
     cells.extend((1..=16).map(|n| Cell::Length(128 * n)));
     cells.extend(Refusal::ALL.map(Cell::Refused));
     cells.extend((0..VARIANTS.len()).map(Cell::Tells));
-    for edge in Edge::MISSED {
+    for &edge in Edge::MISSED {
         cells.push(Cell::Missed(edge, true));
         // Elements in two areas can all be read
         if edge != Edge::AcrossAreas {
