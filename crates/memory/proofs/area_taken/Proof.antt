@@ -1,5 +1,5 @@
 -- `area_taken` meets its contract: it makes the definition's four tests one after the other, and the first that fails decides.
-use mathlib.Core.Path.{sym, _∙_}
+use mathlib.Core.Path.{_∙_}
 use borrow.Author.Needs.{needs}
 use borrow.Author.Tests.{le-leb, lt-leb, eq-eqb, ne-eqb}
 use Rattle.memory.specs.Areas.{areaTaken}
