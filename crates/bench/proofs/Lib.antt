@@ -8,6 +8,7 @@ pub mod Copies
 pub mod Together
 pub mod Many
 pub mod Lanes
+pub mod Own
 pub mod Registers
 pub mod Nothing
 pub mod Alike

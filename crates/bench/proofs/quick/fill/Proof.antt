@@ -6,7 +6,8 @@ use mir.Facts.{fits-below}
 use Rattle.ground.proofs.Sizes.{bytes-few}
 use Rattle.bench.specs.Quick.{ownOf, ownIn}
 use Rattle.bench.proofs.Small.{small}
-use Rattle.bench.proofs.Registers.{found-few, found-room, filled-out}
+use Rattle.bench.proofs.Own.{found-few, found-room}
+use Rattle.bench.proofs.Registers.{filled-out}
 use Rattle.bench.proofs.quick.fill.Statement.{statement}
 use Rattle.bench.proofs.quick.fill.Tie as tie
 
