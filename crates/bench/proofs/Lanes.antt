@@ -19,7 +19,8 @@ use Rattle.loads.proofs.Walks.{many}
 use Rattle.plans.proofs.Shapes.{factor-some}
 use Rattle.memory.specs.Addresses.{wrap}
 use Rattle.loads.specs.Outcomes.{extended}
-use Rattle.bench.specs.Quick.{laneFrom, byteFrom, LanesIn, LanesOut, Zeroed}
+use Rattle.bench.specs.Inside.{Zeroed}
+use Rattle.bench.specs.Quick.{laneFrom, byteFrom, LanesIn, LanesOut}
 use Rattle.bench.proofs.Small.{slot}
 use Rattle.bench.proofs.Many.{one, many-split, many-cong, many-none}
 

@@ -19,7 +19,7 @@ use Rattle.loads.specs.Outcomes.{surveyOf, laneValue, registerByte, registerOf}
 use Rattle.loads.specs.declared.Plan.{Plan}
 use Rattle.loads.proofs.Apart.{taken-wanted}
 use Rattle.loads.proofs.Walks.{many, number, walk-clear, walk-stopped, clear-or-stopped}
-use Rattle.bench.specs.Quick.{Zeroed}
+use Rattle.bench.specs.Inside.{Zeroed}
 use Rattle.bench.specs.Roads.{RanWith}
 use Rattle.bench.proofs.Many.{any-many}
 

@@ -21,7 +21,8 @@ use Rattle.memory.specs.declared.Reading.{Reading}
 use Rattle.loads.specs.Lanes.{bitOf, takes}
 use Rattle.loads.specs.Outcomes.{extended, laneValue, registerByte, registerOf}
 use Rattle.loads.specs.declared.Plan.{Plan}
-use Rattle.bench.specs.Quick.{answersFrom, laneFrom, byteFrom, Copied, Zeroed, strideOf, bitsOf, countOf, ownIn, FillIn, OwnOut, FillOut}
+use Rattle.bench.specs.Inside.{Zeroed}
+use Rattle.bench.specs.Quick.{answersFrom, laneFrom, byteFrom, Copied, strideOf, bitsOf, countOf, ownIn, FillIn, OwnOut, FillOut}
 use Rattle.bench.proofs.Digits.{widens}
 use Rattle.bench.proofs.Own.{Told, tells, same-bytes}
 

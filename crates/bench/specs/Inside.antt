@@ -1,9 +1,10 @@
 -- The promises of the functions below `step`. Nothing here has to be believed: the promise of `step` is StepPromise of loads.
-use Prim.Native.Nat.{ℕ, _*_, _/_}
+use Prim.Native.Nat.{ℕ, _*_, _/_, _≤_, _<_}
 use mathlib.Core.Path.{_≡_}
 use mathlib.Core.Bool.{Bool}
-use mathlib.Core.List.{[], _∷_}
+use mathlib.Core.List.{List, [], _∷_}
 use lib.Dec.{eqb}
+use lib.ListN.{length, getD}
 use Rattle.ground.specs.Choices.{allOf}
 use Rattle.loads.specs.Benches.{Lent, Bench, lengthAllowed}
 use Rattle.loads.specs.Answers.{reportOf}
@@ -24,3 +25,9 @@ stacked p l b = atStack l (b .scalars) (Go p)
 -- an accepted set-up ends as what was prepared ends, carried out
 unfoldable pub EndsAs : (Lent → Bench → Prepared) → Lent → Bench → StepResult → Bench → Type 0
 EndsAs q l b r after = _≡_ {A = Outcome} (record { report = reportOf r; lent = l; bench = after }) (carriedOut l b (q l b))
+
+-- zeros from a place on
+pub record Zeroed (dst dst′ : List ℕ) (from : ℕ) : Type 0 where
+  pub long : length dst′ ≡ length dst
+  pub kept : (i : ℕ) → i < from → getD dst′ i 0 ≡ getD dst i 0
+  pub zero : (i : ℕ) → from ≤ i → i < length dst → getD dst′ i 0 ≡ 0

@@ -55,12 +55,6 @@ pub record Copied (dst dst′ : List ℕ) (block end : ℕ) : Type 0 where
   pub long : length dst′ ≡ length dst
   pub copied : (i : ℕ) → i < end → getD dst′ i 0 ≡ getD dst (i % block) 0
 
--- zeros from a place on
-pub record Zeroed (dst dst′ : List ℕ) (from : ℕ) : Type 0 where
-  pub long : length dst′ ≡ length dst
-  pub kept : (i : ℕ) → i < from → getD dst′ i 0 ≡ getD dst i 0
-  pub zero : (i : ℕ) → from ≤ i → i < length dst → getD dst′ i 0 ≡ 0
-
 -- by the rule: whether it is LD1R's; the register's own chunks, which are filled from the stretch, while the rest is copies of them and
 -- zeros; how far apart their elements lie; the bits that decide; and the count of reads, from the number of lanes that are on
 abbrev pub isAlways : Rule → Bool

@@ -13,7 +13,7 @@ ghost use Rattle.memory.specs.Addresses.{wrap};
 ghost use Rattle.memory.specs.Areas.{areasOf};
 ghost use Rattle.loads.specs.Outcomes.{answersIn, valueOf, extended, laneValue, registerOf, baseAfter, scalarsAfter};
 ghost use Rattle.loads.specs.Sounds.{Sound};
-ghost use Rattle.bench.specs.Quick.{Zeroed};
+ghost use Rattle.bench.specs.Inside.{Zeroed};
 
 // The largest number of a size.
 fn largest(size: Size) -> u64
