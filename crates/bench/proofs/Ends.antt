@@ -7,17 +7,23 @@ use Prim.Native.Nat.{ℕ, _+_, _-_, _*_, _/_, _≤_}
 use native.Mathlib.Omega.{arith}
 use borrow.Author.Tests.{eq-eqb, ne-eqb}
 use lib.Dec.{eqb}
-use lib.ListN.{length, take, drop, take-append-drop}
+use lib.ListN.{length, take, drop, length-take, length-drop, take-append-drop}
 use Rattle.ground.specs.Choices.{if_then_else_}
 use Rattle.ground.proofs.Fills.{back-in, part-length}
-use Rattle.ground.proofs.Laws.{true-or-false, all-of}
+use Rattle.ground.proofs.Laws.{true-or-false, never, all-of}
 use Rattle.memory.specs.Areas.{areasTaken}
 use Rattle.memory.specs.declared.Reading.{Reading}
 use Rattle.loads.specs.Benches.{Lent, Bench, areas, acceptedTests, accepted}
 use Rattle.loads.specs.Answers.{numberOf, reportOf}
-use Rattle.loads.specs.Lanes.{governing}
+use Rattle.loads.specs.Lanes.{predicateOf, governing}
 use Rattle.loads.specs.Outcomes.{answersOf, scalarsAfter, benchAfter, outcomeOf}
 use Rattle.loads.specs.Steps.{stackFails, planned, prepared, stepOf, StepPromise}
+use Rattle.words.specs.declared.Governing.{Governing}
+use Rattle.words.specs.declared.Governing.the-variants.{None, By}
+use Rattle.words.proofs.Ranges.{Governed}
+use Rattle.loads.specs.Sounds.{GovernedIn}
+use Rattle.loads.specs.declared.Rule.{Rule}
+use Rattle.loads.specs.declared.Rule.the-variants.{Always, LaneBit, ElementBit}
 use Rattle.loads.specs.declared.Answer.{Answer}
 use Rattle.loads.specs.declared.Answer.the-variants.{SetUp, Stack}
 use Rattle.loads.specs.declared.Plan.{Plan}
@@ -28,16 +34,20 @@ use Rattle.plans.specs.Prepares.{plannedFor}
 use Rattle.plans.proofs.Prepares.{allowed-planned}
 use Rattle.bench.specs.Lends.{benchOf}
 use Rattle.bench.specs.Inside.{filesTaken, stacked, EndsAs}
+use Rattle.bench.specs.Quick.{isAlways}
 use Rattle.bench.specs.Roads.{Loaded, Targeted}
+use Rattle.bench.proofs.Small.{slot}
 
--- the predicate's part that is lent is the governing register
-pub governed : (l : Lent) (p : Plan)
-    → (let n = l .settings .vl / 64 in take (p .pg * n + n - p .pg * n) (drop (p .pg * n) (l .predicates)) ≡ governing l p)
-unfolding governing
-governed l p =
-    let n = l .settings .vl / 64 in
-    let k : p .pg * n + n - p .pg * n ≡ n = omega arith in
-    rw k
+-- where the rule asks bits, a predicate decides over a register of n bytes
+module _ (n k : ℕ) (file : List ℕ) (whole : length file ≡ 16 * k) (few : n ≤ 8 * k) where
+  governs : (g : Governing) → Governed g → n ≤ 8 * length (predicateOf k file g)
+  governs None h = absurd h
+  governs (By g) h = simp (length-take, length-drop) (omega (arith, slot g 8 k h))
+
+  pub decided : (r : Rule) (g : Governing) → GovernedIn r g → isAlways r ≡ false → n ≤ 8 * length (predicateOf k file g)
+  decided Always g h a = never refl a
+  decided LaneBit g h a = governs g h
+  decided ElementBit g h a = governs g h
 
 -- a load into a register, in the vector file that the register is lent out of
 pub targeted : (answer : ℕ → Reading) (p : Plan) (pred z : List ℕ) (n : ℕ) → p .target * n + n ≤ length z → {ys : List ℕ} {r : StepResult}

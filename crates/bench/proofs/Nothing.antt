@@ -11,21 +11,17 @@ use lib.ListN.{length}
 use Rattle.ground.specs.Sizes.{bytesOf}
 use Rattle.ground.proofs.Fills.{is-listed}
 use Rattle.ground.proofs.Laws.{never, off, any-of}
-use Rattle.memory.specs.Troubles.{Bad, nowhere, denied}
 use Rattle.memory.specs.declared.Reading.{Reading}
 use Rattle.loads.specs.Answers.{Report}
 use Rattle.loads.specs.Lanes.{wanted, asked, takes}
 use Rattle.loads.specs.Outcomes.{surveyOf, laneValue, registerByte, registerOf}
 use Rattle.loads.specs.declared.Plan.{Plan}
 use Rattle.loads.proofs.Apart.{taken-wanted}
-use Rattle.loads.proofs.Walks.{many, number, walk-clear, walk-stopped, clear-or-stopped}
+use Rattle.loads.proofs.Numbers.{fault-number}
+use Rattle.loads.proofs.Walks.{many, walk-clear, walk-stopped, clear-or-stopped}
 use Rattle.bench.specs.Inside.{Zeroed}
 use Rattle.bench.specs.Roads.{RanWith}
 use Rattle.bench.proofs.Many.{any-many}
-
-no-fault : (k : Bad) → number k ≡ 0 → ⊥
-no-fault nowhere e = omega arith
-no-fault denied e = omega arith
 
 module _ (answer : ℕ → Reading) (p : Plan) (pred : List ℕ) (some : 0 < p .elements) (r : RanWith (surveyOf answer p pred) 0) where
   none-many : many (wanted p pred) 0 (p .elements) ≡ 0
@@ -33,7 +29,9 @@ module _ (answer : ℕ → Reading) (p : Plan) (pred : List ℕ) (some : 0 < p .
   none-many =
       ⊎-elim
       (λ c. sym (zero-add _) ∙ sym (ap (λ (s : Report). s .count) (walk-clear (wanted p pred) answer 0 0 (p .elements) c)) ∙ r .counted)
-      (λ s. absurd (no-fault (s .kind) (sym (ap (λ (t : Report). t .number) (walk-stopped (wanted p pred) answer 0 0 (p .elements) s)) ∙ r .number)))
+      (λ s.
+      let ran = sym (ap (λ (t : Report). t .number) (walk-stopped (wanted p pred) answer 0 0 (p .elements) s)) ∙ r .number in
+      absurd (omega (arith, fault-number (s .kind) .0, ran)))
       (clear-or-stopped (wanted p pred) answer 0 (p .elements))
 
   none-wanted : (e : ℕ) → e < p .elements → wanted p pred e ≡ true → ⊥

@@ -148,8 +148,8 @@ module _ {p : Plan} {pred s : List ℕ} {n : ℕ} (f : FillIn p pred s n) where
   own-room : ownIn p * 8 ≤ n
   own-room = omega (arith, same-bytes, mul-le-mul-right (bytesOf (p .lane)) (tells .room), f .fit .shaped .room)
 
-  own-few : (0 < ownIn p * 8) × (ownIn p ≤ 32) × (ownIn p ≤ length pred)
-  own-few = (rw same-bytes at (mul-pos (tells .some) (bytes-some (p .lane))), omega (arith, own-room, f .fit .most), omega (arith, own-room, f .fit .decided))
+  own-few : (0 < ownIn p * 8) × (ownIn p ≤ 32)
+  own-few = (rw same-bytes at (mul-pos (tells .some) (bytes-some (p .lane))), omega (arith, own-room, f .fit .most))
 
   pub own-in : LanesIn s 0 (strideOf (p .rule) (bytesOf (p .size))) (ownIn p * (8 / bytesOf (p .lane))) (bytesOf (p .size)) (bytesOf (p .lane)) n
   own-in =
@@ -222,9 +222,9 @@ other-bits LaneBit pred h = refl
 other-bits ElementBit pred h = refl
 
 module _ {p : Plan} {pred s : List ℕ} {n : ℕ} (f : FillIn p pred s n) {own width b stride : ℕ} (o : own ≡ ownIn p) (w : width ≡ bytesOf (p .lane)) (e : b ≡ bytesOf (p .size))
-    (d : stride ≡ strideOf (p .rule) (bytesOf (p .size))) where
+    (d : stride ≡ strideOf (p .rule) (bytesOf (p .size))) (h : isAlways (p .rule) ≡ false) where
   pub other-in : (LanesIn s 0 stride (own * (8 / width)) b width n) × (own ≤ 32) × (own ≤ length pred)
-  other-in = let few = own-few f in rw (o, w, e, d) (own-in f, few .1, few .2)
+  other-in = rw (o, w, e, d) (own-in f, own-few f .1, omega (arith, own-room f, f .fit .decided h))
 
-  pub other-out : isAlways (p .rule) ≡ false → {dst : List ℕ} {on : ℕ} → LanesOut s 0 pred stride (p .signed) b width n dst on (own * (8 / width)) → OwnOut p pred s n dst on
-  other-out h r = rw (other-bits (p .rule) pred h) (rw (o, w, e, d) at r)
+  pub other-out : {dst : List ℕ} {on : ℕ} → LanesOut s 0 pred stride (p .signed) b width n dst on (own * (8 / width)) → OwnOut p pred s n dst on
+  other-out r = rw (other-bits (p .rule) pred h) (rw (o, w, e, d) at r)

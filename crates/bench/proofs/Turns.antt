@@ -1,5 +1,5 @@
 -- One turn of `survey`'s loop, over any wishes and any answers: the walk over what is left goes on from the count so far.
-use mathlib.Core.Path.{_≡_, refl, sym, _∙_}
+use mathlib.Core.Path.{_≡_, sym, _∙_}
 use mathlib.Core.Bool.{Bool, true, false}
 use mathlib.Core.List.{_∷_}
 use Prim.Native.Nat.{ℕ, zero, suc, _+_, _-_, _≤_, _<_}
@@ -8,13 +8,12 @@ use native.Mathlib.Numerals.{sub-one}
 use native.Mathlib.Omega.{arith}
 use Rattle.ground.specs.Choices.{if_then_else_}
 use Rattle.ground.specs.Lists.{upFrom}
-use Rattle.memory.specs.Troubles.{Bad, nowhere, denied, badReading}
+use Rattle.memory.specs.declared.Fault.{Fault}
 use Rattle.memory.specs.declared.Address.{Address}
 use Rattle.memory.specs.declared.Reading.{Reading}
-use Rattle.memory.specs.declared.Reading.the-variants.{Value}
-use Rattle.loads.specs.Answers.{Report, report}
-use Rattle.loads.specs.Outcomes.{onReading, walk}
-use Rattle.loads.proofs.Walks.{number}
+use Rattle.memory.specs.declared.Reading.the-variants.{Value, Bad}
+use Rattle.loads.specs.Answers.{faultNumber, report}
+use Rattle.loads.specs.Outcomes.{walk}
 
 -- the elements below e are walked over, and `count` of them were read
 pub record SoFar (want : ℕ → Bool) (answer : ℕ → Reading) (n count e : ℕ) : Type 0 where
@@ -35,10 +34,6 @@ finished {n = n} {e = e} s h =
     let z : n - e ≡ 0 = omega arith in
     sym (s .walks ∙ rw z)
 
-on-bad : (t : Bad) (a : Address) (e count : ℕ) (rest : Report) → onReading (badReading t a) e count rest ≡ report (number t) count e (a .0)
-on-bad nowhere a e count rest = refl
-on-bad denied a e count rest = refl
-
 -- a turn: element e is left to look at
 module _ {want : ℕ → Bool} {answer : ℕ → Reading} {n count e : ℕ} (s : SoFar want answer n count e) (more : e < n) where
   next : upFrom want e (n - e) ≡ (let rest = upFrom want (e + 1) (n - (e + 1)) in if want e then e ∷ rest else rest)
@@ -55,5 +50,5 @@ module _ {want : ℕ → Bool} {answer : ℕ → Reading} {n count e : ℕ} (s :
   counted h v a = record { within = omega arith; few = let f = s .few in omega arith; walks = s .walks ∙ rw (next, h, a) }
 
   -- it has a bad byte
-  pub stopped : want e ≡ true → (t : Bad) (a : Address) → answer e ≡ badReading t a → report (number t) count e (a .0) ≡ walk answer 0 (upFrom want 0 n)
-  stopped h t a b = sym (s .walks ∙ rw (next, h, b) (on-bad t a e count _))
+  pub stopped : want e ≡ true → (f : Fault) (a : Address) → answer e ≡ Bad f a → report (faultNumber f) count e (a .0) ≡ walk answer 0 (upFrom want 0 n)
+  stopped h f a b = sym (s .walks ∙ rw (next, h, b))

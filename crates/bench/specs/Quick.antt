@@ -88,7 +88,7 @@ pub record Fit (p : Plan) (pred : List ℕ) (n : ℕ) : Type 0 where
   pub shaped : Shaped p n
   pub most : n ≤ 256
   pub whole : n % 8 ≡ 0
-  pub decided : n ≤ 8 * length pred
+  pub decided : isAlways (p .rule) ≡ false → n ≤ 8 * length pred
 
 -- a register's own chunks, of a plan
 abbrev pub ownIn : Plan → ℕ

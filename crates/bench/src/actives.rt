@@ -1,13 +1,31 @@
 // Which lanes are active, which elements a load asks for and which lane takes one. No memory is in sight.
 use loads::Plan;
 use loads::Rule;
+use words::Governing;
 ghost use mathlib.Core.Path.{_≡_};
-ghost use Prim.Native.Nat.{_%_, _≤_};
+ghost use Prim.Native.Nat.{_*_, _≤_};
 ghost use lib.ListN.{length};
 ghost use Rattle.ground.specs.Lists.{anyBelow};
-ghost use Rattle.loads.specs.Lanes.{bitOf, laneActive, wanted, byRule, takes};
+ghost use Rattle.loads.specs.Lanes.{predicateOf, bitOf, laneActive, wanted, letBy, takes, checksStack};
 ghost use Rattle.loads.specs.Sounds.{Sound};
-ghost use Rattle.loads.specs.Steps.{checksStack, stackFails};
+ghost use Rattle.loads.specs.Steps.{stackFails};
+
+// The bytes of the governing predicate, where there is one: a register of n bytes in a file of 16.
+pub(crate) fn governing<'p>(p: &'p [u8], n: usize, plan: Plan) -> &'p [u8]
+    requires { ⌜ Sound plan ⌝ }
+    requires { ⌜ (n ≤ 32) × (length (now p) ≡ 16 * n) ⌝ }
+    ensures { λ r. ⌜ r .now ≡ predicateOf n (now (p .entry)) (plan .governing) ⌝ }
+{
+    let by = plan.governing;
+    match by {
+        Governing::None => &p[0..0],
+        Governing::By(g) => {
+            let at = g as usize * n;
+            let end = at + n;
+            &p[at..end]
+        }
+    }
+}
 
 // Whether a bit of a predicate register is 1, lowest bit of each byte first. Past its end there is none.
 pub(crate) fn active(pred: &[u8], bit: u64) -> bool
@@ -58,7 +76,7 @@ pub(crate) fn asks(plan: Plan, pred: &[u8], e: u64) -> bool
     }
 }
 
-// Whether the SP check is made: whether any element is asked for.
+// Whether the SP check is made: for LD1R always, else where one of the lanes that it consults is active.
 fn checks(plan: Plan, pred: &[u8]) -> bool
     requires { ⌜ Sound plan ⌝ }
     ensures { λ r. ⌜ r ≡ checksStack plan (now (pred .entry)) ⌝ }
@@ -66,8 +84,8 @@ fn checks(plan: Plan, pred: &[u8]) -> bool
     let rule = plan.rule;
     match rule {
         Rule::Always => true,
-        Rule::LaneBit => some_active(plan, pred, plan.filled),
-        Rule::ElementBit => some_active(plan, pred, plan.elements),
+        Rule::LaneBit => some_active(plan, pred, plan.consulted),
+        Rule::ElementBit => some_active(plan, pred, plan.consulted),
     }
 }
 
@@ -90,7 +108,7 @@ pub(crate) fn stack_fails(x: &[u64], pred: &[u8], plan: Plan) -> bool
 fn lets(plan: Plan, pred: &[u8], l: u64) -> bool
     requires { ⌜ Sound plan ⌝ }
     requires { ⌜ l ≤ 256 ⌝ }
-    ensures { λ r. ⌜ r ≡ byRule (plan .rule) (laneActive plan (now (pred .entry)) l) (laneActive plan (now (pred .entry)) (l % plan .elements)) ⌝ }
+    ensures { λ r. ⌜ r ≡ letBy plan (now (pred .entry)) (plan .rule) l ⌝ }
 {
     let rule = plan.rule;
     match rule {

@@ -54,8 +54,7 @@ fn value(
 {
     match reads::element(map, flash, flash_rights, ram, ram_rights, plan, e) {
         Reading::Value(v) => v,
-        Reading::Nowhere(_) => 0,
-        Reading::Denied(_) => 0,
+        Reading::Bad(_, _) => 0,
     }
 }
 

@@ -62,9 +62,7 @@ fn carry<'a>(
     ensures { λ r. ⌜ EndsAs (stacked plan) (lentOf settings (now (p .entry)) map (now (flash .entry)) (now («flash_rights» .entry)) (now («ram_rights» .entry))) (benchOf (now (z .entry)) (now (x .entry)) (now (ram .entry))) r (benchOf (now (z .exit)) (now (x .exit)) (now (ram .entry))) ⌝ }
 {
     let k = (settings.vl / 64) as usize;
-    let at = plan.pg as usize * k;
-    let end = at + k;
-    let pred = &p[at..end];
+    let pred = actives::governing(p, k, plan);
     if actives::stack_fails(x, pred, plan) {
         return ended(0, Answer::Stack);
     }

@@ -61,8 +61,7 @@ pub(crate) fn survey(
     while e < plan.elements {
         if actives::asks(plan, pred, e) {
             match element(map, flash, flash_rights, ram, ram_rights, plan, e) {
-                Reading::Nowhere(a) => return ended(count, Answer::NoMemory(a, e)),
-                Reading::Denied(a) => return ended(count, Answer::Denied(a, e)),
+                Reading::Bad(fault, a) => return ended(count, Answer::Faulted(fault, a, e)),
                 Reading::Value(_) => {
                     count += 1;
                 }

@@ -15,6 +15,7 @@ use words::Back;
 use words::Decoded;
 use words::Insn;
 use words::Offset;
+use words::Shape;
 
 // How far the input is read: where the next line begins, and its number; whether to read on, and whether every line was in the form.
 // Then for each row of the table how many words are such, and how many of these agree; the last row is of all words.
@@ -27,52 +28,30 @@ struct Run {
     agree: [u64; 12],
 }
 
-// The row of a block load.
-fn block_family(wide: bool, offset: Offset) -> usize {
+// Which of two rows: that of an immediate offset, or that of a scalar one.
+fn either(offset: Offset, immediate: usize, scalar: usize) -> usize {
     match offset {
-        Offset::Imm(_) => if wide { 7 } else { 5 },
-        Offset::Reg(_) => if wide { 8 } else { 6 },
+        Offset::Imm(_) => immediate,
+        Offset::Reg(_) => scalar,
     }
 }
 
 // The row of a load: its family.
 fn family(insn: Insn) -> usize {
-    match insn {
-        Insn::Replicate {
-            q: _,
-            size: _,
-            back,
-            rn: _,
-            rt: _,
-        } => match back {
+    let shape = insn.shape;
+    match shape {
+        Shape::Replicate { q: _, back } => match back {
             Back::Keep => 0,
             Back::Post(_) => 1,
         },
-        Insn::ByElement {
-            dtype: _,
-            imm6: _,
-            pg: _,
-            rn: _,
-            zt: _,
-        } => 2,
-        Insn::Contiguous {
-            dtype: _,
-            offset,
-            pg: _,
-            rn: _,
-            zt: _,
-        } => match offset {
-            Offset::Imm(_) => 3,
-            Offset::Reg(_) => 4,
-        },
-        Insn::Block {
-            wide,
-            msz: _,
-            offset,
-            pg: _,
-            rn: _,
-            zt: _,
-        } => block_family(wide, offset),
+        Shape::ByElement { imm6: _ } => 2,
+        Shape::Contiguous { offset } => either(offset, 3, 4),
+        Shape::Block { wide, offset } => {
+            if wide {
+                return either(offset, 7, 8);
+            }
+            either(offset, 5, 6)
+        }
     }
 }
 

@@ -6,9 +6,10 @@ use crate::texts::has_at;
 use crate::texts::part;
 use ground::Size;
 use words::Back;
-use words::Dtype;
+use words::Governing;
 use words::Insn;
 use words::Offset;
+use words::Shape;
 ghost use Prim.Native.Nat.{_<_};
 
 // A size by its logarithm k: 2^k bytes.
@@ -76,16 +77,32 @@ fn filled(start: Text, form: &[u8], values: &[u32]) -> Text {
     t
 }
 
-// LD1R: q chooses 16 bytes of lanes, or 8. Post-index by register 31 is by the element's bytes.
-fn replicate(q: u32, k: u32, back: Back, rn: u32, rt: u32) -> Text
+// The text of a load up to its target's number, with what every load has behind that: its lanes' size, the predicate where one governs
+// it, and its base.
+fn based(t: Text, insn: Insn) -> Text {
+    let element = insn.element;
+    let lane = element.lane;
+    let named = filled(t, b"L}", &[log(lane)]);
+    let governing = insn.governing;
+    let governed = match governing {
+        Governing::None => named,
+        Governing::By(pg) => filled(named, b", pN/z", &[pg]),
+    };
+    filled(governed, b", [B", &[insn.base])
+}
+
+// An SVE load of this name and of elements of 2^k bytes in memory, up to its base.
+fn sve(name: &[u8], k: u32, insn: Insn) -> Text {
+    let element = insn.element;
+    let sign = if element.signed { 1 } else { 0 };
+    let t = filled(Text::of(name), b"SE {zN.", &[sign, k, insn.target]);
+    based(t, insn)
+}
+
+// What LD1R of an element of 2^k bytes adds to its base afterwards. Register 31 stands for the element's bytes.
+fn written(t: Text, back: Back, k: u32) -> Text
     requires { ⌜ k < 32 ⌝ }
 {
-    let bytes = if q == 0 { 8 } else { 16 };
-    let t = filled(
-        Text::of(b"ld1r"),
-        b" {vN.NL}, [B]",
-        &[rt, bytes >> k, k, rn],
-    );
     match back {
         Back::Keep => t,
         Back::Post(rm) => {
@@ -95,25 +112,6 @@ fn replicate(q: u32, k: u32, back: Back, rn: u32, rt: u32) -> Text
             filled(t, b", xN", &[rm])
         }
     }
-}
-
-// An SVE load whose lanes have a row of the dtype table, up to its base.
-fn extending(name: &[u8], dtype: Dtype, zt: u32, pg: u32, rn: u32) -> Text {
-    let memory = dtype.memory;
-    let lane = dtype.lane;
-    let signed = if dtype.signed { 1 } else { 0 };
-    let values = [signed, log(memory), zt, log(lane), pg, rn];
-    filled(Text::of(name), b"SE {zN.L}, pN/z, [B", &values)
-}
-
-// LD1R by element: the field counts elements, and bytes are printed. Zero is not printed.
-fn by_element(dtype: Dtype, imm6: u32, zt: u32, pg: u32, rn: u32) -> Text {
-    let memory = dtype.memory;
-    let t = extending(b"ld1r", dtype, zt, pg, rn);
-    if imm6 == 0 {
-        return t.and(b"]");
-    }
-    filled(t, b", #N]", &[imm6 << log(memory)])
 }
 
 // A signed field of four bits, times 2^k, and what is printed behind it. Zero is not printed.
@@ -130,72 +128,50 @@ fn signed(t: Text, imm4: u32, k: u32, behind: &[u8]) -> Text
     filled(t, b", #-N", &[(16 - n) << k]).and(behind)
 }
 
-// A scalar offset, in elements of 2^k bytes.
-fn scalar(t: Text, rm: u32, k: u32) -> Text {
-    if k == 0 {
-        return filled(t, b", xN]", &[rm]);
-    }
-    filled(t, b", xN, lsl #N]", &[rm, k])
-}
-
-// LD1: the immediate counts whole vectors, and is printed so.
-fn contiguous(dtype: Dtype, offset: Offset, zt: u32, pg: u32, rn: u32) -> Text {
-    let memory = dtype.memory;
-    let t = extending(b"ld1", dtype, zt, pg, rn);
-    match offset {
-        Offset::Imm(imm4) => signed(t, imm4, 0, b", mul vl]"),
-        Offset::Reg(rm) => scalar(t, rm, log(memory)),
-    }
-}
-
-// LD1RQ and LD1RO: the immediate counts blocks of 2^unit bytes, and bytes are printed.
-fn block(name: &[u8], unit: u32, k: u32, offset: Offset, zt: u32, pg: u32, rn: u32) -> Text
+// The offset of a load of elements of 2^k bytes: a scalar counts elements, and an immediate is printed times 2^unit.
+fn placed(t: Text, offset: Offset, k: u32, unit: u32, behind: &[u8]) -> Text
     requires { ⌜ unit < 32 ⌝ }
 {
-    let values = [k, zt, k, pg, rn];
-    let t = filled(Text::of(name), b"E {zN.L}, pN/z, [B", &values);
     match offset {
-        Offset::Imm(imm4) => signed(t, imm4, unit, b"]"),
-        Offset::Reg(rm) => scalar(t, rm, k),
+        Offset::Imm(imm4) => signed(t, imm4, unit, behind),
+        Offset::Reg(rm) => {
+            if k == 0 {
+                return filled(t, b", xN]", &[rm]);
+            }
+            filled(t, b", xN, lsl #N]", &[rm, k])
+        }
     }
 }
 
 // The text of a load.
 pub(crate) fn load(insn: Insn) -> Text {
-    match insn {
-        Insn::Replicate {
-            q,
-            size,
-            back,
-            rn,
-            rt,
-        } => replicate(q, log(Size::of(size)), back, rn, rt),
-        Insn::ByElement {
-            dtype,
-            imm6,
-            pg,
-            rn,
-            zt,
-        } => by_element(Dtype::of(dtype), imm6, zt, pg, rn),
-        Insn::Contiguous {
-            dtype,
-            offset,
-            pg,
-            rn,
-            zt,
-        } => contiguous(Dtype::of(dtype), offset, zt, pg, rn),
-        Insn::Block {
-            wide,
-            msz,
-            offset,
-            pg,
-            rn,
-            zt,
-        } => {
-            if wide {
-                return block(b"ld1ro", 5, msz, offset, zt, pg, rn);
+    let element = insn.element;
+    let memory = element.memory;
+    let k = log(memory);
+    let shape = insn.shape;
+    match shape {
+        // q chooses 16 bytes of lanes, or 8
+        Shape::Replicate { q, back } => {
+            let bytes = if q == 0 { 8 } else { 16 };
+            let start = filled(Text::of(b"ld1r"), b" {vN.N", &[insn.target, bytes >> k]);
+            written(based(start, insn).and(b"]"), back, k)
+        }
+        // the field counts elements, and bytes are printed
+        Shape::ByElement { imm6 } => {
+            let t = sve(b"ld1r", k, insn);
+            if imm6 == 0 {
+                return t.and(b"]");
             }
-            block(b"ld1rq", 4, msz, offset, zt, pg, rn)
+            filled(t, b", #N]", &[imm6 << k])
+        }
+        // the immediate counts whole vectors, and is printed so
+        Shape::Contiguous { offset } => placed(sve(b"ld1", k, insn), offset, k, 0, b", mul vl]"),
+        // the immediate counts blocks of 32 bytes, or of 16, and bytes are printed
+        Shape::Block { wide, offset } => {
+            if wide {
+                return placed(sve(b"ld1ro", k, insn), offset, k, 5, b"]");
+            }
+            placed(sve(b"ld1rq", k, insn), offset, k, 4, b"]")
         }
     }
 }

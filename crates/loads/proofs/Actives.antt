@@ -4,30 +4,28 @@ use mathlib.Core.Path.{_≡_, refl, sym, ap, _∙_}
 use mathlib.Core.Bool.{Bool, true, false}
 use mathlib.Core.List.{List}
 use mathlib.Core.Logic.{_↔_}
-use Prim.Native.Nat.{ℕ, zero, suc, _+_, _*_, _/_, _%_, _^_, _≤_, _<_}
-use native.Mathlib.Nat.{mod-lt, mod-one, mod-eq-of-lt, zero-mul, div-lt-iff-lt-mul}
+use Prim.Native.Nat.{ℕ, zero, suc, _*_, _/_, _%_, _^_, _≤_, _<_}
+use native.Mathlib.Nat.{mod-lt, mod-one, mod-eq-of-lt, zero-mul, zero-div, div-lt-iff-lt-mul}
 use native.Mathlib.Omega.{arith}
 use lib.Dec.{ltb, eqb, lit<}
-use lib.ListN.{getD, drop}
+use lib.ListN.{drop}
 use lib.Seq.{getD-take, getD-drop}
 use borrow.Author.Tests.{eq-eqb, eqb-true, ltb-true, lt-ltb}
 use Rattle.ground.specs.Choices.{if_then_else_}
 use Rattle.ground.specs.Lists.{anyBelow}
-use Rattle.ground.proofs.Laws.{if-cases, any-of, any-at, and-left, and-right, both}
-use Rattle.ground.specs.Sizes.{bytesOf, sizeOf}
+use Rattle.ground.proofs.Laws.{never, if-cases, any-of, any-at, and-left, and-right, both}
+use Rattle.ground.specs.Sizes.{bytesOf}
 use Rattle.ground.specs.declared.Size.{Size}
 use Rattle.ground.specs.declared.Size.the-variants.{B8, B16, B32, B64}
-use Rattle.words.specs.declared.Insn.{Insn}
-use Rattle.words.specs.declared.Insn.the-variants.{Replicate, ByElement, Contiguous, Block}
-use Rattle.words.proofs.Ranges.{InsnInRange}
+use Rattle.loads.specs.Insns.{Insn, Shape, Replicate, ByElement, Contiguous, Block, Governing, None, By}
+use Rattle.words.proofs.Ranges.{ShapeInRange}
 use Rattle.loads.specs.Benches.{Lent}
 use Rattle.loads.specs.Terms.{blockBytes}
-use Rattle.loads.specs.Plans.{planOf}
-use Rattle.loads.specs.Lanes.{governing, bitOf, laneActive, wanted, takes}
-use Rattle.loads.specs.Steps.{checksStack}
-use Rattle.loads.specs.Said.{laneOf, L, N, K, LaneActive, Active, Checks}
-use Rattle.loads.specs.Given.{Wide}
-use Rattle.loads.specs.Leaves.{Takes}
+use Rattle.loads.specs.Plans.{spreadOf, planWith}
+use Rattle.loads.specs.Lanes.{predicateOf, governing, bitOf, laneActive, wanted, takes, checksStack}
+use Rattle.loads.specs.Said.{L, N, K, BitSet, ActiveAs, ChecksAs}
+use Rattle.loads.specs.Given.{WideAs}
+use Rattle.loads.specs.Leaves.{TakesAs}
 use Rattle.loads.specs.declared.Plan.{Plan}
 
 -- a lane of the register has its bit in the register's VL/64 bytes
@@ -49,10 +47,10 @@ pub block-bytes : (wide : Bool) → (blockBytes wide % 8 ≡ 0) × (0 < blockByt
 block-bytes false = (refl, lit< tt)
 block-bytes true = (refl, lit< tt)
 
-pub block-some : (wide : Bool) (s : Size) → 0 < K wide s
+pub block-some : (wide : Bool) (s : Size) → 0 < blockBytes wide / bytesOf s
 block-some wide s = let b = block-bytes wide in in-lanes s (blockBytes wide) 0 (b .0) .1 (rw zero-mul (b .1))
 
-block-within : (wide : Bool) (s : Size) (vl e : ℕ) → 128 ≤ vl → (wide ≡ true → 256 ≤ vl) → e < K wide s → e * bytesOf s / 8 < vl / 64
+block-within : (wide : Bool) (s : Size) (vl e : ℕ) → 128 ≤ vl → (wide ≡ true → 256 ≤ vl) → e < blockBytes wide / bytesOf s → e * bytesOf s / 8 < vl / 64
 block-within wide s vl e h long k = go wide long (in-lanes s (blockBytes wide) e (block-bytes wide .0) .0 k)
   where
     go : (wide : Bool) → (wide ≡ true → 256 ≤ vl) → e * bytesOf s < blockBytes wide → e * bytesOf s / 8 < vl / 64
@@ -68,117 +66,111 @@ replicated-bytes zero h = refl
 replicated-bytes (suc zero) h = refl
 replicated-bytes (suc (suc q)) h = absurd (omega arith)
 
-module _ (l : Lent) (p : Plan) (e : ℕ) (there : e * bytesOf (p .lane) / 8 < l .settings .vl / 64) where
-  -- a byte of the governing register is a byte of the file
-  in-file : getD (governing l p) (e * bytesOf (p .lane) / 8) 0 ≡ getD (l .predicates) (p .pg * (l .settings .vl / 64) + e * bytesOf (p .lane) / 8) 0
-  unfolding governing
-  in-file = getD-take (l .settings .vl / 64) (drop (p .pg * (l .settings .vl / 64)) (l .predicates)) _ 0 there ∙ getD-drop (p .pg * (l .settings .vl / 64)) (l .predicates) _ 0
+-- a bit of the governing predicate is a bit of the file
+bit-set : (l : Lent) (g : Governing) (n : ℕ) → n / 8 < l .settings .vl / 64 → (bitOf (predicateOf (l .settings .vl / 64) (l .predicates) g) n ≡ true) ↔ BitSet l g n
+unfolding bitOf
+bit-set l None n there = (λ h. never h (simp zero-div), λ h. absurd h)
+bit-set l (By g) n there =
+    let k = l .settings .vl / 64 in
+    let in-file = getD-take k (drop (g * k) (l .predicates)) _ 0 there ∙ getD-drop (g * k) (l .predicates) _ 0 in (
+      λ h. ap (λ (b : ℕ). b / 2 ^ (n % 8) % 2) (sym in-file) ∙ eqb-true _ 1 h,
+      λ h. eq-eqb _ 1 (ap (λ (b : ℕ). b / 2 ^ (n % 8) % 2) in-file ∙ h),
+    )
 
-  pub lane-active : (laneActive p (governing l p) e ≡ true) ↔ LaneActive l (p .pg) (bytesOf (p .lane)) e
-  unfolding laneActive bitOf
-  lane-active = (
-    λ h. ap (λ (n : ℕ). n / 2 ^ (e * bytesOf (p .lane) % 8) % 2) (sym in-file) ∙ eqb-true _ 1 h,
-    λ h. eq-eqb _ 1 (ap (λ (n : ℕ). n / 2 ^ (e * bytesOf (p .lane) % 8) % 2) in-file ∙ h),
+module _ (l : Lent) (p : Plan) where
+  abbrev On : ℕ → Type 0
+  On e = BitSet l (p .governing) (e * bytesOf (p .lane))
+
+  abbrev There : ℕ → Type 0
+  There e = e * bytesOf (p .lane) / 8 < l .settings .vl / 64
+
+  lane-active : (e : ℕ) → There e → (laneActive p (governing l p) e ≡ true) ↔ On e
+  unfolding laneActive governing
+  lane-active e there = bit-set l (p .governing) (e * bytesOf (p .lane)) there
+
+  -- one of the first n lanes is active
+  some-active : (n : ℕ) → ((e : ℕ) → e < n → There e) → (anyBelow (laneActive p (governing l p)) n ≡ true) ↔ ((e : ℕ) × (e < n) × On e)
+  some-active n there = (
+    λ h. let r = any-at (laneActive p (governing l p)) n h in (r .0, r .1, lane-active (r .0) (there (r .0) (r .1)) .0 (r .2)),
+    λ r. any-of (laneActive p (governing l p)) n (r .0) (r .1) (lane-active (r .0) (there (r .0) (r .1)) .1 (r .2)),
   )
 
--- one of the first n lanes is active
-some-active : (l : Lent) (p : Plan) (n : ℕ) → ((e : ℕ) → e < n → e * bytesOf (p .lane) / 8 < l .settings .vl / 64)
-    → (anyBelow (laneActive p (governing l p)) n ≡ true) ↔ ((e : ℕ) × (e < n) × LaneActive l (p .pg) (bytesOf (p .lane)) e)
-some-active l p n there = (
-  λ h. let r = any-at (laneActive p (governing l p)) n h in (r .0, r .1, lane-active l p (r .0) (there (r .0) (r .1)) .0 (r .2)),
-  λ r. any-of (laneActive p (governing l p)) n (r .0) (r .1) (lane-active l p (r .0) (there (r .0) (r .1)) .1 (r .2)),
-)
+module _ (l : Lent) (x : List ℕ) (multiple : l .settings .vl % 128 ≡ 0) (least : 128 ≤ l .settings .vl) (i : Insn) where
+  abbrev plan : Shape → Plan
+  plan s = planWith i (spreadOf (l .settings .vl) x i s)
 
-module _ (l : Lent) (x : List ℕ) (multiple : l .settings .vl % 128 ≡ 0) (least : 128 ≤ l .settings .vl) where
-  abbrev plan : Insn → Plan
-  plan i = planOf (l .settings .vl) x i
+  -- the lanes of a register, and of a block
+  each-lane : (e : ℕ) → e < N l i → e * L i / 8 < l .settings .vl / 64
+  each-lane e h = lane-within (i .element .lane) (l .settings .vl) e multiple h
 
-  abbrev Asked : Insn → ℕ → Type 0
-  Asked i e = (e < plan i .elements) × (wanted (plan i) (governing l (plan i)) e ≡ true)
+  each-own : (wide : Bool) → (wide ≡ true → 256 ≤ l .settings .vl) → (e : ℕ) → e < K wide i → e * L i / 8 < l .settings .vl / 64
+  each-own wide long e h = block-within wide (i .element .lane) (l .settings .vl) e least long h
 
-  -- the lanes that a load consults
-  each-lane : (i : Insn) (e : ℕ) → e < N l i → e * L i / 8 < l .settings .vl / 64
-  each-lane i e h = lane-within (laneOf i) (l .settings .vl) e multiple h
+  own-some : (wide : Bool) → 0 < K wide i
+  own-some wide = block-some wide (i .element .lane)
 
-  pub active : (i : Insn) → (Wide i → 256 ≤ l .settings .vl) → (e : ℕ) → Asked i e ↔ Active l i e
-  unfolding planOf wanted
-  active (Replicate q size back rn rt) long e = (λ h. let k = h .0 in omega arith, λ h. (omega arith, refl))
-  active (ByElement dtype imm6 pg rn zt) long e =
-      let i = ByElement dtype imm6 pg rn zt in
-      let s = some-active l (plan i) (N l i) (each-lane i) in
+  abbrev Asked : Shape → ℕ → Type 0
+  Asked s e = (e < plan s .elements) × (wanted (plan s) (governing l (plan s)) e ≡ true)
+
+  pub active : (s : Shape) → (WideAs s → 256 ≤ l .settings .vl) → (e : ℕ) → Asked s e ↔ ActiveAs s l i e
+  unfolding spreadOf wanted
+  active (Replicate q back) long e = (λ h. let k = h .0 in omega arith, λ h. (omega arith, refl))
+  active (ByElement imm6) long e =
+      let s = some-active l (plan (ByElement imm6)) (N l i) each-lane in
       (λ h. let k = h .0 in (omega arith, s .0 (h .1)), λ h. let k = h .0 in (omega arith, s .1 (h .1)))
-  active (Contiguous dtype o pg rn zt) long e =
-      let i = Contiguous dtype o pg rn zt in
-      (λ h. (h .0, lane-active l (plan i) e (each-lane i e (h .0)) .0 (h .1)), λ h. (h .0, lane-active l (plan i) e (each-lane i e (h .0)) .1 (h .1)))
-  active (Block wide msz o pg rn zt) long e =
-      let i = Block wide msz o pg rn zt in
-      let there = block-within wide (sizeOf msz) (l .settings .vl) e least long in
-      (λ h. (h .0, lane-active l (plan i) e (there (h .0)) .0 (h .1)), λ h. (h .0, lane-active l (plan i) e (there (h .0)) .1 (h .1)))
+  active (Contiguous o) long e =
+      let s = lane-active l (plan (Contiguous o)) e in
+      (λ h. (h .0, s (each-lane e (h .0)) .0 (h .1)), λ h. (h .0, s (each-lane e (h .0)) .1 (h .1)))
+  active (Block wide o) long e =
+      let s = lane-active l (plan (Block wide o)) e in
+      (λ h. (h .0, s (each-own wide long e (h .0)) .0 (h .1)), λ h. (h .0, s (each-own wide long e (h .0)) .1 (h .1)))
 
-  -- the SP check is made exactly when an element is asked for
-  pub some-element : (i : Insn) → (Wide i → 256 ≤ l .settings .vl) → (checksStack (plan i) (governing l (plan i)) ≡ true) ↔ ((e : ℕ) × Active l i e)
-  unfolding checksStack
-  some-element i long =
-      let f = wanted (plan i) (governing l (plan i)) in (
-        λ h. let r = any-at f (plan i .elements) h in (r .0, active i long (r .0) .0 (r .1, r .2)),
-        λ r. let a = active i long (r .0) .1 (r .1) in any-of f (plan i .elements) (r .0) (a .0) (a .1),
-      )
-
-  checks-some : (i : Insn) → Checks l i ↔ ((e : ℕ) × Active l i e)
-  checks-some (Replicate q size back rn rt) = (λ h. (0, refl), λ h. tt)
-  checks-some (ByElement dtype imm6 pg rn zt) = (λ h. (0, (refl, h)), λ h. h .1 .1)
-  checks-some (Contiguous dtype o pg rn zt) = (λ h. (h .0, (h .1, h .2)), λ h. (h .0, h .1 .0, h .1 .1))
-  checks-some (Block wide msz o pg rn zt) = (λ h. (h .0, (h .1, h .2)), λ h. (h .0, h .1 .0, h .1 .1))
-
-  pub checks : (i : Insn) → (Wide i → 256 ≤ l .settings .vl) → (checksStack (plan i) (governing l (plan i)) ≡ true) ↔ Checks l i
-  checks i long = (λ h. checks-some i .1 (some-element i long .0 h), λ h. some-element i long .1 (checks-some i .0 h))
+  -- the SP check is made exactly when the scope says so
+  pub checks : (s : Shape) → (WideAs s → 256 ≤ l .settings .vl) → (checksStack (plan s) (governing l (plan s)) ≡ true) ↔ ChecksAs s l i
+  unfolding spreadOf checksStack
+  checks (Replicate q back) long = (λ h. tt, λ h. refl)
+  checks (ByElement imm6) long = some-active l (plan (ByElement imm6)) (N l i) each-lane
+  checks (Contiguous o) long = some-active l (plan (Contiguous o)) (N l i) each-lane
+  checks (Block wide o) long = some-active l (plan (Block wide o)) (K wide i) (each-own wide long)
 
   -- lane k of the destination takes element e of the plan exactly where the scope says
-  pub takes-there : (i : Insn) → InsnInRange i → (Wide i → 256 ≤ l .settings .vl) → (k e : ℕ) → k < N l i → Takes l i k e
-      → (takes (plan i) (governing l (plan i)) k ≡ true) × (k % plan i .elements ≡ e)
-  unfolding planOf takes
-  takes-there (Replicate q size back rn rt) fine long k e h t =
+  pub takes-there : (s : Shape) → ShapeInRange i s → (WideAs s → 256 ≤ l .settings .vl) → (k e : ℕ) → k < N l i → TakesAs s l i k e
+      → (takes (plan s) (governing l (plan s)) k ≡ true) × (k % plan s .elements ≡ e)
+  unfolding spreadOf takes
+  takes-there (Replicate q back) fine long k e h t =
       let n : ℕ = if eqb q 1 then 16 else 8 in
       let r = replicated-bytes q (fine .0) in
-      (rw (lt-ltb k (n / bytesOf (sizeOf size)) (in-lanes (sizeOf size) n k (eighth q) .1 (rw r (t .1)))), mod-one k ∙ sym (t .0))
-  takes-there (ByElement dtype imm6 pg rn zt) fine long k e h t =
-      let i = ByElement dtype imm6 pg rn zt in
-      (both (ltb k (N l i)) _ (lt-ltb k _ h) (lane-active l (plan i) k (each-lane i k h) .1 (t .1)), mod-one k ∙ sym (t .0))
-  takes-there (Contiguous dtype o pg rn zt) fine long k e h t =
-      let i = Contiguous dtype o pg rn zt in
-      (both (ltb k (N l i)) _ (lt-ltb k _ h) (rw (mod-eq-of-lt h) (lane-active l (plan i) k (each-lane i k h) .1 (t .1))), mod-eq-of-lt h ∙ sym (t .0))
-  takes-there (Block wide msz o pg rn zt) fine long k e h t =
-      let i = Block wide msz o pg rn zt in
-      let some = block-some wide (sizeOf msz) in (
-        both (ltb k (plan i .filled)) _ (lt-ltb k _ (div-lt-iff-lt-mul some .0 (t .1)))
-            (lane-active l (plan i) (k % K wide (sizeOf msz)) (block-within wide (sizeOf msz) (l .settings .vl) _ least long (mod-lt k some)) .1 (t .2)),
-        sym (t .0),
-      )
+      (rw (lt-ltb k (n / L i) (in-lanes (i .element .lane) n k (eighth q) .1 (rw r (t .1)))), mod-one k ∙ sym (t .0))
+  takes-there (ByElement imm6) fine long k e h t =
+      (both (ltb k (N l i)) _ (lt-ltb k _ h) (lane-active l (plan (ByElement imm6)) k (each-lane k h) .1 (t .1)), mod-one k ∙ sym (t .0))
+  takes-there (Contiguous o) fine long k e h t =
+      (both (ltb k (N l i)) _ (lt-ltb k _ h) (rw (mod-eq-of-lt h) (lane-active l (plan (Contiguous o)) k (each-lane k h) .1 (t .1))), mod-eq-of-lt h ∙ sym (t .0))
+  takes-there (Block wide o) fine long k e h t = (
+    both (ltb k (plan (Block wide o) .filled)) _ (lt-ltb k _ (div-lt-iff-lt-mul (own-some wide) .0 (t .1)))
+        (lane-active l (plan (Block wide o)) (k % K wide i) (each-own wide long _ (mod-lt k (own-some wide))) .1 (t .2)),
+    sym (t .0),
+  )
 
-  pub there-takes : (i : Insn) → InsnInRange i → (Wide i → 256 ≤ l .settings .vl) → (k : ℕ) → k < N l i → takes (plan i) (governing l (plan i)) k ≡ true
-      → Takes l i k (k % plan i .elements)
-  unfolding planOf takes
-  there-takes (Replicate q size back rn rt) fine long k h t =
+  pub there-takes : (s : Shape) → ShapeInRange i s → (WideAs s → 256 ≤ l .settings .vl) → (k : ℕ) → k < N l i → takes (plan s) (governing l (plan s)) k ≡ true
+      → TakesAs s l i k (k % plan s .elements)
+  unfolding spreadOf takes
+  there-takes (Replicate q back) fine long k h t =
       let n : ℕ = if eqb q 1 then 16 else 8 in
       let r = replicated-bytes q (fine .0) in
-      (mod-one k, rw r at (in-lanes (sizeOf size) n k (eighth q) .0 (ltb-true k _ (and-left (ltb k (n / bytesOf (sizeOf size))) _ t))))
-  there-takes (ByElement dtype imm6 pg rn zt) fine long k h t =
-      let i = ByElement dtype imm6 pg rn zt in
-      (mod-one k, lane-active l (plan i) k (each-lane i k h) .0 (and-right (ltb k (N l i)) _ t))
-  there-takes (Contiguous dtype o pg rn zt) fine long k h t =
-      let i = Contiguous dtype o pg rn zt in
-      (mod-eq-of-lt h, lane-active l (plan i) k (each-lane i k h) .0 (rw (mod-eq-of-lt h) at (and-right (ltb k (N l i)) _ t)))
-  there-takes (Block wide msz o pg rn zt) fine long k h t =
-      let i = Block wide msz o pg rn zt in
-      let some = block-some wide (sizeOf msz) in (
-        refl,
-        div-lt-iff-lt-mul some .1 (ltb-true k _ (and-left (ltb k (plan i .filled)) _ t)),
-        lane-active l (plan i) (k % K wide (sizeOf msz)) (block-within wide (sizeOf msz) (l .settings .vl) _ least long (mod-lt k some)) .0 (and-right (ltb k (plan i .filled)) _ t),
-      )
+      (mod-one k, rw r at (in-lanes (i .element .lane) n k (eighth q) .0 (ltb-true k _ (and-left (ltb k (n / L i)) _ t))))
+  there-takes (ByElement imm6) fine long k h t =
+      (mod-one k, lane-active l (plan (ByElement imm6)) k (each-lane k h) .0 (and-right (ltb k (N l i)) _ t))
+  there-takes (Contiguous o) fine long k h t =
+      (mod-eq-of-lt h, lane-active l (plan (Contiguous o)) k (each-lane k h) .0 (rw (mod-eq-of-lt h) at (and-right (ltb k (N l i)) _ t)))
+  there-takes (Block wide o) fine long k h t = (
+    refl,
+    div-lt-iff-lt-mul (own-some wide) .1 (ltb-true k _ (and-left (ltb k (plan (Block wide o) .filled)) _ t)),
+    lane-active l (plan (Block wide o)) (k % K wide i) (each-own wide long _ (mod-lt k (own-some wide))) .0 (and-right (ltb k (plan (Block wide o) .filled)) _ t),
+  )
 
   -- and that element is active
-  pub taken-active : (i : Insn) → (k e : ℕ) → k < N l i → Takes l i k e → Active l i e
-  taken-active (Replicate q size back rn rt) k e h t = t .0
-  taken-active (ByElement dtype imm6 pg rn zt) k e h t = (t .0, (k, h, t .1))
-  taken-active (Contiguous dtype o pg rn zt) k e h t = rw (t .0) (h, t .1)
-  taken-active (Block wide msz o pg rn zt) k e h t = rw (t .0) (mod-lt k (block-some wide (sizeOf msz)), t .2)
+  pub taken-active : (s : Shape) (k e : ℕ) → k < N l i → TakesAs s l i k e → ActiveAs s l i e
+  taken-active (Replicate q back) k e h t = t .0
+  taken-active (ByElement imm6) k e h t = (t .0, (k, h, t .1))
+  taken-active (Contiguous o) k e h t = rw (t .0) (h, t .1)
+  taken-active (Block wide o) k e h t = rw (t .0) (mod-lt k (own-some wide), t .2)

@@ -10,9 +10,7 @@ use Rattle.ground.specs.Choices.{if_then_else_}
 use Rattle.ground.specs.Lists.{replaced}
 use Rattle.ground.specs.Sizes.{bytesOf}
 use Rattle.words.specs.Families.{readOf}
-use Rattle.words.specs.declared.Insn.{Insn}
-use Rattle.words.specs.declared.Decoded.{Decoded}
-use Rattle.words.specs.declared.Decoded.the-variants.{Outside, Undefined, Is}
+use Rattle.loads.specs.Insns.{Insn, Decoded, Outside, Undefined, Is}
 use Rattle.memory.specs.Addresses.{plusOf}
 use Rattle.memory.specs.Areas.{Areas}
 use Rattle.memory.specs.Bytes.{lookOf}
@@ -34,7 +32,6 @@ use Rattle.loads.specs.declared.Settings.{Settings}
 use Rattle.loads.specs.declared.Plan.{Plan}
 use Rattle.loads.specs.declared.Planned.{Planned}
 use Rattle.loads.specs.declared.Planned.the-variants as P
-use Rattle.loads.proofs.Fields.{fields}
 use Rattle.loads.proofs.Places.{byte-lies}
 use Rattle.loads.proofs.Actives.{active}
 use Rattle.loads.proofs.Accepts.{accepted-exactly}
@@ -87,8 +84,8 @@ module _ (l : Lent) (b : Bench) (l′ : Lent) (b′ : Bench) (taken : Accepted l
 
     touched : (e k : ℕ) → Wanted e → k < bytesOf (p .size) → Touched l w b (plusOf (elementAt p e) k)
     touched e k h q =
-        let a = active l (b .scalars) (taken .multiple) (taken .least) i (ready .defined .long) e .0 h in
-        (i, ready, e, a, k, rw (← ap bytesOf (fields (l .settings .vl) (b .scalars) i .memory)) q, byte-lies l (b .scalars) i e k a)
+        let a = active l (b .scalars) (taken .multiple) (taken .least) i (i .shape) (ready .defined .long) e .0 h in
+        (i, ready, e, a, k, q, byte-lies l (b .scalars) i e k a)
 
     same-troubles : (e : ℕ) → Wanted e → troubleOf (answersOf l b p e) ≡ troubleOf (answersOf l′ b′ p e)
     unfolding answersIn
@@ -104,7 +101,7 @@ module _ (l : Lent) (b : Bench) (l′ : Lent) (b′ : Bench) (taken : Accepted l
         ∙ ap (surveyOf (answersOf l′ b′ p) p) (same-governing p)
 
     some : 0 < p .elements
-    some = sound (l .settings .vl) (b .scalars) (taken .least) (taken .most) i (in-range-of w i (ready .defined .reads)) .some
+    some = let fine = in-range-of w i (ready .defined .reads) in sound (l .settings .vl) (b .scalars) (taken .least) (taken .most) i fine (i .shape) (fine .shape) .some
 
     afters : SameBytes l w b l′ b′ → Same l (benchAfter (answersOf l b p) l b p) l′ (benchAfter (answersOf l′ b′ p) l′ b′ p)
     unfolding benchAfter

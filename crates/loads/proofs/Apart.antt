@@ -9,15 +9,15 @@ use native.Mathlib.Omega.{arith}
 use lib.Dec.{ltb}
 use borrow.Author.Tests.{ltb-true}
 use Rattle.ground.specs.Choices.{if_then_else_}
-use Rattle.ground.specs.Lists.{upFrom, anyBelow}
+use Rattle.ground.specs.Lists.{upFrom}
 use Rattle.ground.proofs.Laws.{if-cong, and-left, and-right, any-of, listed-cong}
 use Rattle.ground.specs.Sizes.{bytesOf}
-use Rattle.memory.specs.Troubles.{nowhere, denied, Trouble, none, bad, troubleOf}
+use Rattle.memory.specs.Troubles.{Trouble, none, bad, troubleOf}
 use Rattle.memory.specs.declared.Reading.{Reading}
 use Rattle.memory.specs.declared.Reading.the-variants as R
 use Rattle.loads.specs.Benches.{Lent, Bench}
-use Rattle.loads.specs.Answers.{Report, report}
-use Rattle.loads.specs.Lanes.{governing, byRule, laneActive, wanted, asked, takes}
+use Rattle.loads.specs.Answers.{faultNumber, Report, report}
+use Rattle.loads.specs.Lanes.{governing, laneActive, wantedBy, wanted, asked, letBy, takes}
 use Rattle.loads.specs.Outcomes.{onReading, walk, surveyOf, laneValue, registerByte, registerOf, benchAfter, outcomeOf}
 use Rattle.loads.specs.declared.Rule.{Rule}
 use Rattle.loads.specs.declared.Rule.the-variants.{Always, LaneBit, ElementBit}
@@ -26,14 +26,12 @@ use Rattle.loads.specs.declared.Plan.{Plan}
 -- an element's part in the report is its trouble
 byTrouble : Trouble → ℕ → ℕ → Report → Report
 byTrouble none e c rest = rest
-byTrouble (bad nowhere a) e c rest = report 6 c e a
-byTrouble (bad denied a) e c rest = report 7 c e a
+byTrouble (bad f a) e c rest = report (faultNumber f) c e a
 
 on-is : (r : Reading) (e c : ℕ) (rest : Report) → onReading r e c rest ≡ byTrouble (troubleOf r) e c rest
 unfolding byTrouble
 on-is (R.Value v) e c rest = refl
-on-is (R.Nowhere a) e c rest = refl
-on-is (R.Denied a) e c rest = refl
+on-is (R.Bad f a) e c rest = refl
 
 on-same : (r s : Reading) (e c : ℕ) (x y : Report) → troubleOf r ≡ troubleOf s → x ≡ y → onReading r e c x ≡ onReading s e c y
 on-same r s e c x y h k = on-is r e c x ∙ (λ i. byTrouble (h i) e c (k i)) ∙ sym (on-is s e c y)
@@ -60,8 +58,7 @@ module _ (a b : ℕ → Reading) (p : Plan) (pred : List ℕ) where
 
   -- the element that a lane takes is asked for
   module _ (some : 0 < p .elements) where
-    by-rule : (r : Rule) (l : ℕ) → l < p .filled → byRule r (laneActive p pred l) (laneActive p pred (l % p .elements)) ≡ true
-        → byRule r (anyBelow (laneActive p pred) (p .filled)) (laneActive p pred (l % p .elements)) ≡ true
+    by-rule : (r : Rule) (l : ℕ) → l < p .filled → letBy p pred r l ≡ true → wantedBy p pred r (l % p .elements) ≡ true
     by-rule Always l k t = refl
     by-rule LaneBit l k t = any-of (laneActive p pred) (p .filled) l k t
     by-rule ElementBit l k t = t

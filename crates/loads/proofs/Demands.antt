@@ -14,28 +14,22 @@ use native.Mathlib.Omega.{arith}
 use lib.IntN.{pos, _+ℤ_, _*ℤ_}
 use lib.ListN.{length}
 use Rattle.ground.proofs.Laws.{only-one}
-use Rattle.ground.specs.Sizes.{bytesOf, sizeOf}
-use Rattle.words.specs.Dtypes.{dtypeOf}
-use Rattle.words.specs.declared.Offset.{Offset}
-use Rattle.words.specs.declared.Offset.the-variants.{Imm, Reg}
-use Rattle.words.specs.declared.Back.{Back}
-use Rattle.words.specs.declared.Insn.{Insn}
-use Rattle.words.specs.declared.Insn.the-variants.{Replicate, ByElement, Contiguous, Block}
+use Rattle.ground.specs.Sizes.{bytesOf}
+use Rattle.loads.specs.Insns.{Insn, Shape, Replicate, ByElement, Contiguous, Block, Offset, Imm, Reg, Back}
 use Rattle.memory.specs.Addresses.{wrap, wrapℤ}
 use Rattle.loads.specs.Benches.{Lent, Bench, areas}
 use Rattle.loads.specs.Answers.{numberOf, Report, reportOf}
 use Rattle.loads.specs.Terms.{signed4, scalar, blockBytes}
-use Rattle.loads.specs.Plans.{planOf}
+use Rattle.loads.specs.Plans.{spreadOf, planWith, planOf}
 use Rattle.loads.specs.Lanes.{governing, wanted, asked, elementAt}
 use Rattle.loads.specs.Outcomes.{Outcome, surveyOf, outcomeOf}
-use Rattle.loads.specs.Sounds.{Sound}
 use Rattle.loads.specs.declared.Plan.{Plan}
 use Rattle.memory.specs.Troubles.{troubleOf}
 use Rattle.memory.specs.declared.Reading.{Reading}
 use Rattle.loads.specs.Steps.{stepOf, StepPromise}
-use Rattle.loads.specs.Said.{Accepted, L, N, K, targetOf, LaneActive, Active}
+use Rattle.loads.specs.Said.{Accepted, L, N, K, LaneActive, Active}
 use Rattle.loads.specs.Given.{Counted, Ready, AllReadable, Given}
-use Rattle.loads.specs.Leaves.{laneIn, Leaves}
+use Rattle.loads.specs.Leaves.{TakesAs, laneIn, Leaves}
 use Rattle.loads.specs.Agreed.{Same, SameRights, SameBytes}
 use Rattle.loads.specs.declared.StepResult.{StepResult}
 use Rattle.loads.proofs.Places.{signed-field, at-first, on-from, by-immediate, by-register}
@@ -105,50 +99,54 @@ demand-1-count l w b = counts-few l w b
 pub imm4 : (v : ℕ) → v < 16 → signed4 v +ℤ pos 8 ≡ pos ((v + 8) % 16)
 imm4 v h = signed-field v h
 
-module _ (l : Lent) (x : List ℕ) where
-  abbrev at : Insn → ℕ → ℕ
-  at i e = elementAt (planOf (l .settings .vl) x i) e
+module _ (l : Lent) (x : List ℕ) (i : Insn) where
+  -- where the plan of the instruction has element e, and where it would with another shape
+  abbrev at : ℕ → ℕ
+  at e = elementAt (planOf (l .settings .vl) x i) e
+
+  abbrev atAs : Shape → ℕ → ℕ
+  atAs s e = elementAt (planWith i (spreadOf (l .settings .vl) x i s)) e
+
+  own : {s : Shape} (e : ℕ) {n : ℕ} → i .shape ≡ s → atAs s e ≡ n → at e ≡ n
+  own e h q = ap (λ (t : Shape). atAs t e) h ∙ q
 
   -- base + (imm4 × N + e) × m
-  pub ld1-immediate : (dtype imm4 pg rn zt e : ℕ) → let d = dtypeOf dtype in
-      at (Contiguous dtype (Imm imm4) pg rn zt) e
-      ≡ wrapℤ (pos (scalar x rn) +ℤ (signed4 imm4 *ℤ pos (l .settings .vl / (8 * bytesOf (d .lane))) +ℤ pos e) *ℤ pos (bytesOf (d .memory)))
-  unfolding elementAt planOf
-  ld1-immediate dtype imm4 pg rn zt e = by-immediate (scalar x rn) (signed4 imm4) _ e _
+  pub ld1-immediate : (imm4 : ℕ) → i .shape ≡ Contiguous (Imm imm4) → (e : ℕ)
+      → at e ≡ wrapℤ (pos (scalar x (i .base)) +ℤ (signed4 imm4 *ℤ pos (l .settings .vl / (8 * bytesOf (i .element .lane))) +ℤ pos e) *ℤ pos (bytesOf (i .element .memory)))
+  unfolding elementAt spreadOf
+  ld1-immediate imm4 h e = own e h (by-immediate (scalar x (i .base)) (signed4 imm4) _ e _)
 
   -- base + (Xm + e) × m
-  pub ld1-scalar : (dtype rm pg rn zt e : ℕ) →
-      at (Contiguous dtype (Reg rm) pg rn zt) e ≡ wrap (scalar x rn + (scalar x rm + e) * bytesOf (dtypeOf dtype .memory))
-  unfolding elementAt planOf
-  ld1-scalar dtype rm pg rn zt e = by-register (scalar x rn) (scalar x rm) e _
+  pub ld1-scalar : (rm : ℕ) → i .shape ≡ Contiguous (Reg rm) → (e : ℕ) → at e ≡ wrap (scalar x (i .base) + (scalar x rm + e) * bytesOf (i .element .memory))
+  unfolding elementAt spreadOf
+  ld1-scalar rm h e = own e h (by-register (scalar x (i .base)) (scalar x rm) e _)
 
   -- base + imm4 × 16 + e × m
-  pub ld1rq-immediate : (msz imm4 pg rn zt e : ℕ) →
-      at (Block false msz (Imm imm4) pg rn zt) e ≡ wrapℤ (pos (scalar x rn) +ℤ signed4 imm4 *ℤ pos 16 +ℤ pos (e * bytesOf (sizeOf msz)))
-  unfolding elementAt planOf
-  ld1rq-immediate msz imm4 pg rn zt e = sym (on-from (scalar x rn) (signed4 imm4 *ℤ pos 16) _)
+  pub ld1rq-immediate : (imm4 : ℕ) → i .shape ≡ Block false (Imm imm4) → (e : ℕ)
+      → at e ≡ wrapℤ (pos (scalar x (i .base)) +ℤ signed4 imm4 *ℤ pos 16 +ℤ pos (e * bytesOf (i .element .memory)))
+  unfolding elementAt spreadOf
+  ld1rq-immediate imm4 h e = own e h (sym (on-from (scalar x (i .base)) (signed4 imm4 *ℤ pos 16) _))
 
   -- base + imm4 × 32 + e × m
-  pub ld1ro-immediate : (msz imm4 pg rn zt e : ℕ) →
-      at (Block true msz (Imm imm4) pg rn zt) e ≡ wrapℤ (pos (scalar x rn) +ℤ signed4 imm4 *ℤ pos 32 +ℤ pos (e * bytesOf (sizeOf msz)))
-  unfolding elementAt planOf
-  ld1ro-immediate msz imm4 pg rn zt e = sym (on-from (scalar x rn) (signed4 imm4 *ℤ pos 32) _)
+  pub ld1ro-immediate : (imm4 : ℕ) → i .shape ≡ Block true (Imm imm4) → (e : ℕ)
+      → at e ≡ wrapℤ (pos (scalar x (i .base)) +ℤ signed4 imm4 *ℤ pos 32 +ℤ pos (e * bytesOf (i .element .memory)))
+  unfolding elementAt spreadOf
+  ld1ro-immediate imm4 h e = own e h (sym (on-from (scalar x (i .base)) (signed4 imm4 *ℤ pos 32) _))
 
   -- LD1RQ and LD1RO, scalar: base + (Xm + e) × m
-  pub block-scalar : (wide : Bool) (msz rm pg rn zt e : ℕ) →
-      at (Block wide msz (Reg rm) pg rn zt) e ≡ wrap (scalar x rn + (scalar x rm + e) * bytesOf (sizeOf msz))
-  unfolding elementAt planOf
-  block-scalar wide msz rm pg rn zt e = by-register (scalar x rn) (scalar x rm) e _
+  pub block-scalar : (wide : Bool) (rm : ℕ) → i .shape ≡ Block wide (Reg rm) → (e : ℕ) → at e ≡ wrap (scalar x (i .base) + (scalar x rm + e) * bytesOf (i .element .memory))
+  unfolding elementAt spreadOf
+  block-scalar wide rm h e = own e h (by-register (scalar x (i .base)) (scalar x rm) e _)
 
   -- one read at base + imm6 × m
-  pub ld1r-by-element : (dtype imm6 pg rn zt : ℕ) → at (ByElement dtype imm6 pg rn zt) 0 ≡ wrap (scalar x rn + imm6 * bytesOf (dtypeOf dtype .memory))
-  unfolding elementAt planOf
-  ld1r-by-element dtype imm6 pg rn zt = omega arith
+  pub ld1r-by-element : (imm6 : ℕ) → i .shape ≡ ByElement imm6 → at 0 ≡ wrap (scalar x (i .base) + imm6 * bytesOf (i .element .memory))
+  unfolding elementAt spreadOf
+  ld1r-by-element imm6 h = own 0 h (omega arith)
 
   -- one read at the base
-  pub ld1r : (q size : ℕ) (back : Back) (rn rt : ℕ) → at (Replicate q size back rn rt) 0 ≡ wrap (scalar x rn)
-  unfolding elementAt planOf
-  ld1r q size back rn rt = at-first (scalar x rn) 0 (bytesOf (sizeOf size)) refl
+  pub ld1r : (q : ℕ) (back : Back) → i .shape ≡ Replicate q back → at 0 ≡ wrap (scalar x (i .base))
+  unfolding elementAt spreadOf
+  ld1r q back h = own 0 h (at-first (scalar x (i .base)) 0 (bytesOf (i .element .memory)) refl)
 
 -- A load that is ready and can read every byte of its active elements leaves what document 01 says: each lane its extended
 -- number or zero, the base, PC, and everything else as it was.
@@ -178,31 +176,31 @@ pub demand-2-count : (l : Lent) (w : ℕ) (b : Bench) (i : Insn) → Ready l w b
     → let p = planOf (l .settings .vl) (b .scalars) i in stepOf l w b .report .count ≡ length (asked p (governing l p))
 demand-2-count l w b i r a = reads l w b i r a
 
--- An inactive lane becomes zero; in a block load it is one of the block's own, and zero in each copy; bytes left over are zero.
-module _ (l : Lent) (w : ℕ) (b : Bench) where
-  abbrev lane : Insn → ℕ → ℕ
-  lane i k = laneIn l (stepOf l w b .bench .vectors) (targetOf i) (L i) k
+-- An inactive lane becomes zero; in a block load it is one of the block's own, and zero in each copy; bytes left over are zero. Of an
+-- instruction that ran, and k one of its lanes:
+module _ (l : Lent) (w : ℕ) (b : Bench) (i : Insn) (ready : Ready l w b i) (all : AllReadable l b i) (k : ℕ) (inside : k < N l i) where
+  -- what lane k of its register holds
+  abbrev lane : ℕ
+  lane = laneIn l (stepOf l w b .bench .vectors) (i .target) (L i) k
 
-  pub inactive-zero : (dtype : ℕ) (o : Offset) (pg rn zt k : ℕ) → let i = Contiguous dtype o pg rn zt in
-      Ready l w b i → AllReadable l b i → k < N l i → (LaneActive l pg (L i) k → ⊥) → lane i k ≡ 0
-  inactive-zero dtype o pg rn zt k r a h q = demand-2 l w b _ r a .zero k h (λ e t. q (t .1))
+  none : {s : Shape} → i .shape ≡ s → ((e : ℕ) → TakesAs s l i k e → ⊥) → lane ≡ 0
+  none {s} h q = demand-2 l w b i ready all .zero k inside (λ e t. q e (subst (λ (u : Shape). TakesAs u l i k e) h t))
 
-  pub element-inactive-zero : (dtype imm6 pg rn zt k : ℕ) → let i = ByElement dtype imm6 pg rn zt in
-      Ready l w b i → AllReadable l b i → k < N l i → (LaneActive l pg (L i) k → ⊥) → lane i k ≡ 0
-  element-inactive-zero dtype imm6 pg rn zt k r a h q = demand-2 l w b _ r a .zero k h (λ e t. q (t .1))
+  pub inactive-zero : (o : Offset) → i .shape ≡ Contiguous o → (LaneActive l i k → ⊥) → lane ≡ 0
+  inactive-zero o h q = none h (λ e t. q (t .1))
 
-  pub block-inactive-zero : (wide : Bool) (msz : ℕ) (o : Offset) (pg rn zt k : ℕ) → let i = Block wide msz o pg rn zt in
-      Ready l w b i → AllReadable l b i → k < N l i → (LaneActive l pg (L i) (k % K wide (sizeOf msz)) → ⊥) → lane i k ≡ 0
-  block-inactive-zero wide msz o pg rn zt k r a h q = demand-2 l w b _ r a .zero k h (λ e t. q (t .2))
+  pub element-inactive-zero : (imm6 : ℕ) → i .shape ≡ ByElement imm6 → (LaneActive l i k → ⊥) → lane ≡ 0
+  element-inactive-zero imm6 h q = none h (λ e t. q (t .1))
 
-  pub left-over-zero : (wide : Bool) (msz : ℕ) (o : Offset) (pg rn zt k : ℕ) → let i = Block wide msz o pg rn zt in
-      Ready l w b i → AllReadable l b i → k < N l i → l .settings .vl / (8 * blockBytes wide) ≤ k / K wide (sizeOf msz) → lane i k ≡ 0
-  left-over-zero wide msz o pg rn zt k r a h q = demand-2 l w b _ r a .zero k h (λ e t. let c = t .1 in omega arith)
+  pub block-inactive-zero : (wide : Bool) (o : Offset) → i .shape ≡ Block wide o → (LaneActive l i (k % K wide i) → ⊥) → lane ≡ 0
+  block-inactive-zero wide o h q = none h (λ e t. q (t .2))
+
+  pub left-over-zero : (wide : Bool) (o : Offset) → i .shape ≡ Block wide o → l .settings .vl / (8 * blockBytes wide) ≤ k / K wide i → lane ≡ 0
+  left-over-zero wide o h q = none h (λ e t. let c = t .1 in omega arith)
 
   -- LD1R: "the rest of the Z register becomes zero"
-  pub rest-zero : (q size : ℕ) (back : Back) (rn rt k : ℕ) → let i = Replicate q size back rn rt in
-      Ready l w b i → AllReadable l b i → k < N l i → 8 * 2 ^ q ≤ k * L i → lane i k ≡ 0
-  rest-zero q size back rn rt k r a h g = demand-2 l w b _ r a .zero k h (λ e t. let c = t .1 in omega arith)
+  pub rest-zero : (q : ℕ) (back : Back) → i .shape ≡ Replicate q back → 8 * 2 ^ q ≤ k * L i → lane ≡ 0
+  rest-zero q back h g = none h (λ e t. let c = t .1 in omega arith)
 
 -- ---- Demand 3
 -- What a load tells depends only on which of the elements asked for fault, where and how, and never on a value;
@@ -211,9 +209,9 @@ pub demand-3-faults : (a b : ℕ → Reading) (p : Plan) (pred : List ℕ)
 demand-3-faults a b p pred = same-survey a b p pred
 
 -- and all that it leaves, only on the answers to those elements.
-pub demand-3-apart : (a b : ℕ → Reading) (l : Lent) (before : Bench) (p : Plan) → Sound p
+pub demand-3-apart : (a b : ℕ → Reading) (l : Lent) (before : Bench) (p : Plan) → 0 < p .elements
     → ((e : ℕ) → e < p .elements → wanted p (governing l p) e ≡ true → a e ≡ b e) → outcomeOf a l before p ≡ outcomeOf b l before p
-demand-3-apart a b l before p s = apart a b l before p (s .some)
+demand-3-apart a b l before p some = apart a b l before p some
 
 -- Two accepted set-ups with the same settings, registers, predicates and area places, and the same read right on each page that holds
 -- a byte of an active element; let all other rights and all contents differ at will.

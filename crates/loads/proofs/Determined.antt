@@ -14,7 +14,7 @@ use Rattle.ground.proofs.Laws.{true-or-false, never, only-one, little-tells}
 use Rattle.ground.specs.Sizes.{bytesOf}
 use Rattle.ground.specs.declared.Size.{Size}
 use Rattle.ground.specs.declared.Size.the-variants.{B8, B16, B32, B64}
-use Rattle.words.specs.declared.Insn.{Insn}
+use Rattle.loads.specs.Insns.{Insn}
 use Rattle.memory.specs.Areas.{Area, Areas}
 use Rattle.memory.specs.Bytes.{lookOf}
 use Rattle.memory.specs.Said.{Of}
@@ -24,7 +24,7 @@ use Rattle.loads.specs.Benches.{Lent, Bench, areas}
 use Rattle.loads.specs.Terms.{scalar}
 use Rattle.loads.specs.Plans.{planOf}
 use Rattle.loads.specs.Lanes.{governing, takes}
-use Rattle.loads.specs.Said.{laneOf, m, L, N, signOf, baseOf, targetOf, Active, byteAt}
+use Rattle.loads.specs.Said.{m, L, N, Active, byteAt}
 use Rattle.loads.specs.Given.{Ready, AllReadable}
 use Rattle.loads.specs.Leaves.{Takes, laneIn, Extends, Contains, Adds, Leaves}
 use Rattle.loads.specs.declared.Plan.{Plan}
@@ -71,7 +71,7 @@ module _ (l : Lent) (w : ℕ) (b : Bench) (i : Insn) (ready : Ready l w b i) (al
       (c .0, c .1, c .2, v, rw v (octets (c .0) (c .1) _))
 
   module _ (l₁ l₂ : Lent) (b₁ b₂ : Bench) (p : Leaves l b i l₁ b₁) (q : Leaves l b i l₂ b₂) where
-    same-lane : (k : ℕ) → k < N l i → laneIn l (b₁ .vectors) (targetOf i) (L i) k ≡ laneIn l (b₂ .vectors) (targetOf i) (L i) k
+    same-lane : (k : ℕ) → k < N l i → laneIn l (b₁ .vectors) (i .target) (L i) k ≡ laneIn l (b₂ .vectors) (i .target) (L i) k
     same-lane k h =
         let a = ready .defined .accepted in
         let long = ready .defined .long in
@@ -79,21 +79,21 @@ module _ (l : Lent) (w : ℕ) (b : Bench) (i : Insn) (ready : Ready l w b i) (al
         ⊎-elim
         (λ t.
         let e = k % plan .elements in
-        let u = there-takes l (b .scalars) (a .multiple) (a .least) i fine long k h t in
-        let c = contains e (taken-active l (b .scalars) (a .multiple) (a .least) i k e h u) in
-        extended-once (signOf i) _ _ _ _ _ (p .lane k e h u (byte e) c) (q .lane k e h u (byte e) c))
+        let u = there-takes l (b .scalars) (a .multiple) (a .least) i (i .shape) (fine .shape) long k h t in
+        let c = contains e (taken-active l (b .scalars) (a .multiple) (a .least) i (i .shape) k e h u) in
+        extended-once (i .element .signed) _ _ _ _ _ (p .lane k e h u (byte e) c) (q .lane k e h u (byte e) c))
         (λ t.
-        let none : (e : ℕ) → Takes l i k e → ⊥ = λ e u. never (takes-there l (b .scalars) (a .multiple) (a .least) i fine long k e h u .0) t in
+        let none : (e : ℕ) → Takes l i k e → ⊥ = λ e u. never (takes-there l (b .scalars) (a .multiple) (a .least) i (i .shape) (fine .shape) long k e h u .0) t in
         only-one (p .zero k h none) (q .zero k h none))
         (true-or-false (takes plan (governing l plan) k))
 
     -- a byte of the destination is a digit of its lane
-    in-lane : (j : ℕ) → j < n → getD (b₁ .vectors) (targetOf i * n + j) 0 ≡ getD (b₂ .vectors) (targetOf i * n + j) 0
+    in-lane : (j : ℕ) → j < n → getD (b₁ .vectors) (i .target * n + j) 0 ≡ getD (b₂ .vectors) (i .target * n + j) 0
     in-lane j h =
-        let t = targetOf i * n in
+        let t = i .target * n in
         let k = j / L i in
-        let o = lane-of (laneOf i) (l .settings .vl) j (ready .defined .accepted .multiple) h in
-        let there : (x : ℕ) → x < L i → k * L i + x < n = λ x u. whole (laneOf i) (l .settings .vl) k x (ready .defined .accepted .multiple) (o .0) u in
+        let o = lane-of (i .element .lane) (l .settings .vl) j (ready .defined .accepted .multiple) h in
+        let there : (x : ℕ) → x < L i → k * L i + x < n = λ x u. whole (i .element .lane) (l .settings .vl) k x (ready .defined .accepted .multiple) (o .0) u in
         let at : t + k * L i + j % L i ≡ t + j = omega (arith, div-add-mod' j (L i)) in
         rw at at (little-tells (λ x. getD (b₁ .vectors) x 0) (λ x. getD (b₂ .vectors) x 0) (t + k * L i) (t + k * L i) (L i)
         (λ x u. rw add-assoc (p .bytes (k * L i + x) (there x u))) (λ x u. rw add-assoc (q .bytes (k * L i + x) (there x u))) (same-lane k (o .0)) (j % L i) (o .1))
@@ -101,30 +101,30 @@ module _ (l : Lent) (w : ℕ) (b : Bench) (i : Insn) (ready : Ready l w b i) (al
     same-byte : (j : ℕ) → getD (b₁ .vectors) j 0 ≡ getD (b₂ .vectors) j 0
     same-byte j =
         ⊎-elim
-        (λ t. let h = ltb-true j (targetOf i * n) t in only-one (p .below j h) (q .below j h))
+        (λ t. let h = ltb-true j (i .target * n) t in only-one (p .below j h) (q .below j h))
         (λ t.
-        let h = ltb-false j (targetOf i * n) t in
+        let h = ltb-false j (i .target * n) t in
         ⊎-elim
-        (λ u. let g = leb-true (suc (targetOf i) * n) j u in only-one (p .above j g) (q .above j g))
+        (λ u. let g = leb-true (suc (i .target) * n) j u in only-one (p .above j g) (q .above j g))
         (λ u.
-        let g = leb-false (suc (targetOf i) * n) j u in
-        let at : targetOf i * n + (j - targetOf i * n) ≡ j = omega arith in
-        rw at at (in-lane (j - targetOf i * n) (omega (arith, suc-mul (targetOf i) n))))
-        (true-or-false (leb (suc (targetOf i) * n) j)))
-        (true-or-false (ltb j (targetOf i * n)))
+        let g = leb-false (suc (i .target) * n) j u in
+        let at : i .target * n + (j - i .target * n) ≡ j = omega arith in
+        rw at at (in-lane (j - i .target * n) (omega (arith, suc-mul (i .target) n))))
+        (true-or-false (leb (suc (i .target) * n) j)))
+        (true-or-false (ltb j (i .target * n)))
 
     -- a scalar is PC, the base where it is written back, or another
     same-other : (k : ℕ) → (k ≡ 32 → ⊥) → scalar (b₁ .scalars) k ≡ scalar (b₂ .scalars) k
     same-other k pc =
         ⊎-elim
         (λ t.
-        let d = back-adds (l .settings .vl) (b .scalars) i t in
+        let d = back-adds (l .settings .vl) (b .scalars) i (i .shape) t in
         ⊎-elim
-        (λ u. let e = eqb-true k (baseOf i) u in rw e (only-one (p .base (d .0) (d .1)) (q .base (d .0) (d .1))))
-        (λ u. let ne = eqb-false k (baseOf i) u in only-one (p .others k pc (λ a h e. ne e)) (q .others k pc (λ a h e. ne e)))
-        (true-or-false (eqb k (baseOf i))))
+        (λ u. let e = eqb-true k (i .base) u in rw e (only-one (p .base (d .0) (d .1)) (q .base (d .0) (d .1))))
+        (λ u. let ne = eqb-false k (i .base) u in only-one (p .others k pc (λ a h e. ne e)) (q .others k pc (λ a h e. ne e)))
+        (true-or-false (eqb k (i .base))))
         (λ t.
-        let kept : (a : ℕ) → Adds (b .scalars) i a → k ≡ baseOf i → ⊥ = λ a h e. never (adds-back (l .settings .vl) (b .scalars) i a h .0) t in
+        let kept : (a : ℕ) → Adds (b .scalars) i a → k ≡ i .base → ⊥ = λ a h e. never (adds-back (l .settings .vl) (b .scalars) i (i .shape) a h .0) t in
         only-one (p .others k pc kept) (q .others k pc kept))
         (true-or-false (plan .back))
 

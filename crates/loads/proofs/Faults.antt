@@ -4,14 +4,16 @@ use mathlib.Core.Path.{_≡_, refl, sym, ap, _∙_}
 use mathlib.Core.Logic.{_↔_}
 use Prim.Native.Nat.{ℕ, _^_, _<_}
 use native.Mathlib.Omega.{arith}
-use Rattle.ground.specs.Sizes.{bytesOf}
-use Rattle.words.specs.declared.Insn.{Insn}
+use Rattle.loads.specs.Insns.{Insn}
 use Rattle.memory.specs.Addresses.{plusOf}
 use Rattle.memory.specs.Areas.{Areas}
 use Rattle.memory.specs.Bytes.{lookOf}
 use Rattle.memory.specs.Elements.{readingOf}
 use Rattle.memory.specs.Said.{Taken, in-flash, in-ram}
-use Rattle.memory.specs.Troubles.{ByteAt, Bad, nowhere, denied, badCell, badReading, none, bad, troubleOf}
+use Rattle.memory.specs.Troubles.{ByteAt, none, bad, troubleOf}
+use Rattle.memory.specs.declared.Fault.{Fault}
+use Rattle.memory.specs.declared.Fault.the-variants.{Nowhere, Denied}
+use Rattle.memory.specs.declared.Cell.the-variants as C
 use Rattle.memory.specs.declared.Reading.{Reading}
 use Rattle.memory.specs.declared.Reading.the-variants as R
 use Rattle.memory.proofs.Looks.{held-none, nowhere-exactly, denied-exactly, byte-exactly, right-byte}
@@ -22,13 +24,12 @@ use Rattle.loads.specs.Lanes.{elementAt}
 use Rattle.loads.specs.Outcomes.{answersIn, answersOf}
 use Rattle.loads.specs.Said.{m, Active, byteAt, CanRead, Missing, Forbidden}
 use Rattle.loads.specs.declared.Plan.{Plan}
-use Rattle.loads.proofs.Fields.{fields}
 use Rattle.loads.proofs.Places.{byte-lies}
 
 -- the two ways in which a byte is bad, in the scope's words
-abbrev pub IsBad : Bad → Areas → ℕ → Type 0
-IsBad nowhere = Missing
-IsBad denied = Forbidden
+abbrev pub IsBad : Fault → Areas → ℕ → Type 0
+IsBad Nowhere = Missing
+IsBad Denied = Forbidden
 
 pub below-all : (p : Plan) (e : ℕ) → elementAt p e < 2 ^ 64
 unfolding elementAt
@@ -36,24 +37,19 @@ below-all p e = omega arith
 
 good-value : (r : Reading) → (troubleOf r ≡ none) ↔ ((v : ℕ) × (r ≡ R.Value v))
 good-value (R.Value v) = (λ h. (v, refl), λ h. refl)
-good-value (R.Nowhere x) = (λ h. let z : _≡_ {A = ℕ} 0 1 = cc in absurd (omega arith), λ h. let e = h .1 in cc)
-good-value (R.Denied x) = (λ h. let z : _≡_ {A = ℕ} 0 1 = cc in absurd (omega arith), λ h. let e = h .1 in cc)
+good-value (R.Bad f x) = (λ h. let z : _≡_ {A = ℕ} 0 1 = cc in absurd (omega arith), λ h. let e = h .1 in cc)
 
-bad-reading : (t : Bad) (a : ℕ) (r : Reading) → (troubleOf r ≡ bad t a) ↔ (r ≡ badReading t (record { 0 = a }))
-bad-reading nowhere a (R.Value v) = (λ h. cc, λ h. cc)
-bad-reading nowhere a (R.Nowhere x) = (λ h. let e : x .0 ≡ a = cc in λ i. R.Nowhere (record { 0 = e i }), λ h. cc)
-bad-reading nowhere a (R.Denied x) = (λ h. cc, λ h. cc)
-bad-reading denied a (R.Value v) = (λ h. cc, λ h. cc)
-bad-reading denied a (R.Nowhere x) = (λ h. cc, λ h. cc)
-bad-reading denied a (R.Denied x) = (λ h. let e : x .0 ≡ a = cc in λ i. R.Denied (record { 0 = e i }), λ h. cc)
+bad-reading : (t : Fault) (a : ℕ) (r : Reading) → (troubleOf r ≡ bad t a) ↔ (r ≡ R.Bad t (record { 0 = a }))
+bad-reading t a (R.Value v) = (λ h. cc, λ h. cc)
+bad-reading t a (R.Bad f x) = (λ h. let k : f ≡ t = cc in let e : x .0 ≡ a = cc in λ i. R.Bad (k i) (record { 0 = e i }), λ h. cc)
 
 module _ (s : Areas) (taken : Taken s) (a : ℕ) where
   pub can-read : ByteAt (lookOf s) a ↔ CanRead s a
   can-read = (λ h. let r = byte-exactly s taken a (h .0) .0 (h .1) in (r .0, r .1, r .2, r .3), λ h. (_, right-byte s taken a (h .1) (h .2) (h .3)))
 
-  pub is-bad : (t : Bad) → (lookOf s a ≡ badCell t) ↔ IsBad t s a
-  is-bad nowhere = (λ h. held-none s a (nowhere-exactly s a .0 h), λ h. nowhere-exactly s a .1 (h _ in-flash, h _ in-ram))
-  is-bad denied = denied-exactly s taken a
+  pub is-bad : (t : Fault) → (lookOf s a ≡ C.Bad t) ↔ IsBad t s a
+  is-bad Nowhere = (λ h. held-none s a (nowhere-exactly s a .0 h), λ h. nowhere-exactly s a .1 (h _ in-flash, h _ in-ram))
+  is-bad Denied = denied-exactly s taken a
 
 -- an active element of a load on taken areas
 module _ (l : Lent) (b : Bench) (taken : Taken (areas l b)) (i : Insn) (e : ℕ) (active : Active l i e) where
@@ -75,7 +71,7 @@ module _ (l : Lent) (b : Bench) (taken : Taken (areas l b)) (i : Insn) (e : ℕ)
 
   pub answer-is : answersOf l b p e ≡ read
   unfolding answersIn
-  answer-is = ap (readingOf (lookOf (areas l b)) (elementAt p e)) (ap bytesOf (fields (l .settings .vl) (b .scalars) i .memory))
+  answer-is = refl
 
   pub good-exactly : (troubleOf (answersOf l b p e) ≡ none) ↔ ((k : ℕ) → k < m i → CanRead (areas l b) (at k))
   good-exactly = (
@@ -83,7 +79,7 @@ module _ (l : Lent) (b : Bench) (taken : Taken (areas l b)) (i : Insn) (e : ℕ)
     λ h. ap troubleOf answer-is ∙ good-value read .1 (_, value-exactly (lookOf (areas l b)) (elementAt p e) (m i) (below-all p e) _ .1 (λ k q. read-at k .1 (h k q), refl)),
   )
 
-  pub bad-exactly-at : (t : Bad) (a : ℕ) → (troubleOf (answersOf l b p e) ≡ bad t a)
+  pub bad-exactly-at : (t : Fault) (a : ℕ) → (troubleOf (answersOf l b p e) ≡ bad t a)
       ↔ ((k : ℕ) × (k < m i) × IsBad t (areas l b) (at k) × (a ≡ at k) × ((j : ℕ) → j < k → CanRead (areas l b) (at j)))
   bad-exactly-at t a =
       let law = bad-exactly (lookOf (areas l b)) (elementAt p e) (m i) (below-all p e) t (record { 0 = a }) in (

@@ -10,12 +10,11 @@ use borrow.Author.Tests.{eqb-true, eqb-false, ltb-true, ltb-false, lt-ltb, not-t
 use Rattle.ground.specs.Choices.{if_then_else_}
 use Rattle.ground.proofs.Laws.{true-or-false, never, off, and-other, and-left, and-right, if-cases}
 use Rattle.words.specs.Families.{readOf}
-use Rattle.words.specs.declared.Insn.{Insn}
-use Rattle.words.specs.declared.Decoded.{Decoded}
-use Rattle.words.specs.declared.Decoded.the-variants.{Outside, Undefined, Is}
-use Rattle.memory.specs.Troubles.{Bad, nowhere, denied}
+use Rattle.loads.specs.Insns.{Insn, Decoded, Outside, Undefined, Is}
+use Rattle.memory.specs.declared.Fault.{Fault}
+use Rattle.memory.specs.declared.Fault.the-variants.{Nowhere, Denied}
 use Rattle.loads.specs.Benches.{Lent, Bench, accepted}
-use Rattle.loads.specs.Answers.{Report, report, refusal, reportOf}
+use Rattle.loads.specs.Answers.{faultNumber, Report, report, refusal, reportOf}
 use Rattle.loads.specs.Terms.{scalar}
 use Rattle.loads.specs.Plans.{planOf}
 use Rattle.loads.specs.Lanes.{governing}
@@ -29,7 +28,7 @@ use Rattle.loads.specs.declared.Planned.{Planned}
 use Rattle.loads.proofs.Fields.{few}
 use Rattle.loads.proofs.Actives.{active}
 use Rattle.loads.proofs.Accepts.{accepted-exactly}
-use Rattle.loads.proofs.Walks.{many, number, walk-clear, walk-stopped, clear-or-stopped}
+use Rattle.loads.proofs.Walks.{many, walk-clear, walk-stopped, clear-or-stopped}
 use Rattle.loads.proofs.Counts.{counted-most, counted-once}
 use Rattle.loads.proofs.Faults.{IsBad}
 use Rattle.loads.proofs.Unique.{answerOf, resultOf}
@@ -44,10 +43,10 @@ module _ (l : Lent) (w : ℕ) (b : Bench) where
   abbrev Says : Prepared → Type 0
   Says p = Given l w b (carriedOut l b p .report)
 
-  faulted : (i : Insn) → Ready l w b i → (t : Bad) (e k n : ℕ) → FirstBad (IsBad t) l b i e k → Counted (Active l i) e n
-      → Given l w b (report (number t) n e (byteAt l (b .scalars) i e k))
-  faulted i ready nowhere e k n f c = S.no-memory i e k ready f c
-  faulted i ready denied e k n f c = S.denied i e k ready f c
+  faulted : (i : Insn) → Ready l w b i → (t : Fault) (e k n : ℕ) → FirstBad (IsBad t) l b i e k → Counted (Active l i) e n
+      → Given l w b (report (faultNumber t) n e (byteAt l (b .scalars) i e k))
+  faulted i ready Nowhere e k n f c = S.no-memory i e k ready f c
+  faulted i ready Denied e k n f c = S.denied i e k ready f c
 
   carried : (i : Insn) → Ready l w b i → Says (Go (plan i))
   unfolding outcomeOf
@@ -58,8 +57,8 @@ module _ (l : Lent) (w : ℕ) (b : Bench) where
       let f = stops-first l b i a long s in
       let t = s .to in
       let n : 0 + many (want l b i a long) 0 (s .e - 0) ≡ many (want l b i a long) 0 (s .e) = rw (zero-add, sub-zero) in
-      let told : surveyOf (answer l b i a long) (plan i) (governing l (plan i)) ≡ report (number (s .kind)) (many (want l b i a long) 0 (s .e)) (s .e) (byteAt l (b .scalars) i (s .e) (f .0)) =
-      survey-is l b i a long ∙ walk-stopped (want l b i a long) (answer l b i a long) 0 0 (elements l b i a long) s ∙ (λ j. report (number (s .kind)) (n j) (s .e) (f .2 j)) in
+      let told : surveyOf (answer l b i a long) (plan i) (governing l (plan i)) ≡ report (faultNumber (s .kind)) (many (want l b i a long) 0 (s .e)) (s .e) (byteAt l (b .scalars) i (s .e) (f .0)) =
+      survey-is l b i a long ∙ walk-stopped (want l b i a long) (answer l b i a long) 0 0 (elements l b i a long) s ∙ (λ j. report (faultNumber (s .kind)) (n j) (s .e) (f .2 j)) in
       subst (Given l w b) (sym told) (faulted i ready (s .kind) (s .e) (f .0) _ (f .1) (counts l b i a long (s .e) (omega arith))))
       (clear-or-stopped (want l b i a long) (answer l b i a long) 0 (elements l b i a long))
     where
@@ -83,18 +82,18 @@ module _ (l : Lent) (w : ℕ) (b : Bench) where
   pub ways : Accepted l b → (i : Insn) → readOf w ≡ Is i → Way i (of-load i)
   unfolding plannedLoad refusals
   ways a i reads =
-      if-cases (λ q. Way i (stacked q)) (isWide i && not (l .settings .f64mm)) _ _
-      (λ t. inr (_, S.no-f64mm i a reads (wide-exactly i .0 (and-left (isWide i) _ t)) (not-true _ (and-right (isWide i) _ t)), refl))
+      if-cases (λ q. Way i (stacked q)) (isWide (i .shape) && not (l .settings .f64mm)) _ _
+      (λ t. inr (_, S.no-f64mm i a reads (wide-exactly (i .shape) .0 (and-left (isWide (i .shape)) _ t)) (not-true _ (and-right (isWide (i .shape)) _ t)), refl))
       (λ t.
-      let has : Wide i → l .settings .f64mm ≡ true = λ v. not-false _ (and-other (isWide i) _ t (wide-exactly i .1 v)) in
-      if-cases (λ q. Way i (stacked q)) (not (switchedOn (l .settings) i)) _ _
-      (λ u. inr (_, S.switched-off i a reads has (λ o. never (on-exactly l i .1 o) (not-true _ u)), refl))
+      let has : Wide i → l .settings .f64mm ≡ true = λ v. not-false _ (and-other (isWide (i .shape)) _ t (wide-exactly (i .shape) .1 v)) in
+      if-cases (λ q. Way i (stacked q)) (not (switchedOn (l .settings) (i .shape))) _ _
+      (λ u. inr (_, S.switched-off i a reads has (λ o. never (on-exactly l (i .shape) .1 o) (not-true _ u)), refl))
       (λ u.
-      let on : On l i = on-exactly l i .0 (not-false _ u) in
-      if-cases (λ q. Way i (stacked q)) (isWide i && ltb (l .settings .vl) 256) _ _
-      (λ v. let q = wide-exactly i .0 (and-left (isWide i) _ v) in inr (_, S.short i a reads q (has q) on (ltb-true _ _ (and-right (isWide i) _ v)), refl))
+      let on : On l i = on-exactly l (i .shape) .0 (not-false _ u) in
+      if-cases (λ q. Way i (stacked q)) (isWide (i .shape) && ltb (l .settings .vl) 256) _ _
+      (λ v. let q = wide-exactly (i .shape) .0 (and-left (isWide (i .shape)) _ v) in inr (_, S.short i a reads q (has q) on (ltb-true _ _ (and-right (isWide (i .shape)) _ v)), refl))
       (λ v.
-      let long : Wide i → 256 ≤ l .settings .vl = λ q. ltb-false _ _ (and-other (isWide i) _ v (wide-exactly i .1 q)) in
+      let long : Wide i → 256 ≤ l .settings .vl = λ q. ltb-false _ _ (and-other (isWide (i .shape)) _ v (wide-exactly (i .shape) .1 q)) in
       let d : Defined l w b i = record { accepted = a; reads = reads; f64mm = has; on = on; long = long } in
       if-cases (Way i) (stackFails (b .scalars) (plan i) (governing l (plan i))) _ _
       (λ f. let r = stack-exactly l b a i long .0 f in inr (_, S.stack i d (r .0) (r .1) (r .2), refl))
@@ -124,16 +123,16 @@ module _ (l : Lent) (w : ℕ) (b : Bench) where
   loads : (i : Insn) → Accepted l b → readOf w ≡ Is i → stepOf l w b .report ≡ carriedOut l b (of-load i) .report
   loads i a e = ap (λ (o : Outcome). o .report) (evaluated (Is i) a e)
 
-  f64mm-fine : (i : Insn) → (Wide i → l .settings .f64mm ≡ true) → (isWide i && not (l .settings .f64mm)) ≡ false
-  f64mm-fine i h = off _ (λ t. never (h (wide-exactly i .0 (and-left (isWide i) _ t))) (not-true _ (and-right (isWide i) _ t)))
+  f64mm-fine : (i : Insn) → (Wide i → l .settings .f64mm ≡ true) → (isWide (i .shape) && not (l .settings .f64mm)) ≡ false
+  f64mm-fine i h = off _ (λ t. never (h (wide-exactly (i .shape) .0 (and-left (isWide (i .shape)) _ t))) (not-true _ (and-right (isWide (i .shape)) _ t)))
 
-  length-fine : (i : Insn) → (Wide i → 256 ≤ l .settings .vl) → (isWide i && ltb (l .settings .vl) 256) ≡ false
-  length-fine i h = off _ (λ t. let k = h (wide-exactly i .0 (and-left (isWide i) _ t)) in let g = ltb-true (l .settings .vl) 256 (and-right (isWide i) _ t) in omega arith)
+  length-fine : (i : Insn) → (Wide i → 256 ≤ l .settings .vl) → (isWide (i .shape) && ltb (l .settings .vl) 256) ≡ false
+  length-fine i h = off _ (λ t. let k = h (wide-exactly (i .shape) .0 (and-left (isWide (i .shape)) _ t)) in let g = ltb-true (l .settings .vl) 256 (and-right (isWide (i .shape)) _ t) in omega arith)
 
   -- a defined load comes to the stack rule
   defined : (i : Insn) (d : Defined l w b i) → of-load i ≡ (if stackFails (b .scalars) (plan i) (governing l (plan i)) then Stop (refusal 5) else Go (plan i))
   unfolding plannedLoad refusals
-  defined i d = rw (f64mm-fine i (d .f64mm), on-exactly l i .1 (d .on), length-fine i (d .long))
+  defined i d = rw (f64mm-fine i (d .f64mm), on-exactly l (i .shape) .1 (d .on), length-fine i (d .long))
 
   -- .. and goes on, or stops, by it
   at-stack : (i : Insn) → Defined l w b i → (t : Bool) → stackFails (b .scalars) (plan i) (governing l (plan i)) ≡ t → of-load i ≡ (if t then Stop (refusal 5) else Go (plan i))
@@ -152,15 +151,15 @@ module _ (l : Lent) (w : ℕ) (b : Bench) where
   unfolding outcomeOf
   surveyed i r q h = told-by _ q (ready-goes i r) h
 
-  stopped : (i : Insn) (r : Ready l w b i) (t : Bad) (e k n : ℕ) → FirstBad (IsBad t) l b i e k → Counted (Active l i) e n
-      → stepOf l w b .report ≡ report (number t) n e (byteAt l (b .scalars) i e k)
+  stopped : (i : Insn) (r : Ready l w b i) (t : Fault) (e k n : ℕ) → FirstBad (IsBad t) l b i e k → Counted (Active l i) e n
+      → stepOf l w b .report ≡ report (faultNumber t) n e (byteAt l (b .scalars) i e k)
   stopped i r t e k n f c =
       let a = r .defined .accepted in
       let long = r .defined .long in
       let s = first-stops l b i a long t e k f in
       let h = asks l b i a long e .1 (f .active) .0 in
       let m : 0 + many (want l b i a long) 0 (e - 0) ≡ n = zero-add _ ∙ rw sub-zero (counted-once (Active l i) (counts l b i a long e (omega arith)) c) in
-      surveyed i r _ (survey-is l b i a long ∙ walk-stopped (want l b i a long) (answer l b i a long) 0 0 (elements l b i a long) s ∙ (λ j. report (number t) (m j) e (byteAt l (b .scalars) i e k)))
+      surveyed i r _ (survey-is l b i a long ∙ walk-stopped (want l b i a long) (answer l b i a long) 0 0 (elements l b i a long) s ∙ (λ j. report (faultNumber t) (m j) e (byteAt l (b .scalars) i e k)))
 
   pub meant : (r : Report) → Given l w b r → stepOf l w b .report ≡ r
   unfolding stepOf plannedLoad refusals
@@ -171,12 +170,12 @@ module _ (l : Lent) (w : ℕ) (b : Bench) where
   meant r (S.set-up refused) = rw (off (accepted l b) (λ t. refused (accepted-exactly l b .0 t)))
   meant r (S.outside a e) = told-by _ _ (evaluated Outside a e) refl
   meant r (S.undefined a e) = told-by _ _ (evaluated Undefined a e) refl
-  meant r (S.no-f64mm i a e v f) = loads i a e ∙ rw (wide-exactly i .1 v, f)
-  meant r (S.switched-off i a e has o) = loads i a e ∙ rw (f64mm-fine i has, off (switchedOn (l .settings) i) (λ t. o (on-exactly l i .0 t)))
-  meant r (S.short i a e v has on s) = loads i a e ∙ rw (f64mm-fine i (λ _. has), on-exactly l i .1 on, wide-exactly i .1 v, lt-ltb _ _ s)
+  meant r (S.no-f64mm i a e v f) = loads i a e ∙ rw (wide-exactly (i .shape) .1 v, f)
+  meant r (S.switched-off i a e has o) = loads i a e ∙ rw (f64mm-fine i has, off (switchedOn (l .settings) (i .shape)) (λ t. o (on-exactly l (i .shape) .0 t)))
+  meant r (S.short i a e v has on s) = loads i a e ∙ rw (f64mm-fine i (λ _. has), on-exactly l (i .shape) .1 on, wide-exactly (i .shape) .1 v, lt-ltb _ _ s)
   meant r (S.stack i d h c z) = loads i (d .accepted) (d .reads) ∙ ap (λ (p : Prepared). carriedOut l b p .report) (at-stack i d true (stack-exactly l b (d .accepted) i (d .long) .1 (h, c, z)))
-  meant r (S.no-memory i e k ready f c) = stopped i ready nowhere e k _ f c
-  meant r (S.denied i e k ready f c) = stopped i ready denied e k _ f c
+  meant r (S.no-memory i e k ready f c) = stopped i ready Nowhere e k _ f c
+  meant r (S.denied i e k ready f c) = stopped i ready Denied e k _ f c
 
   pub given-exactly : (r : Report) → Given l w b r ↔ (stepOf l w b .report ≡ r)
   given-exactly r = (meant r, λ e. subst (Given l w b) e told)
@@ -222,7 +221,7 @@ module _ (l : Lent) (w : ℕ) (b : Bench) where
   fault-few i r e n q c =
       let a = r .defined .accepted in
       let h = asks l b i a (r .defined .long) e .1 q .0 in
-      omega (arith, counted-most (Active l i) c, few (l .settings .vl) (b .scalars) i (a .most), h)
+      omega (arith, counted-most (Active l i) c, few (l .settings .vl) (b .scalars) i (i .shape) (a .most), h)
 
   few-of : (r : Report) → Given l w b r → r .count ≤ most
   few-of r (S.ran i ready all c) = counted-most (Active l i) c

@@ -7,7 +7,6 @@ use Rattle.loads.specs.Benches.{Lent, Bench, accepted}
 use Rattle.loads.specs.Answers.{report}
 use Rattle.loads.specs.Outcomes.{Outcome, outcomeOf}
 use Rattle.loads.specs.Steps.{Prepared, Stop, Go, prepared, carriedOut, stepOf}
-use Rattle.loads.proofs.Walks.{number}
 
 module _ (l : Lent) (w : ℕ) (b : Bench) where
   -- "An answer other than 0 changes no byte or number of the bench."

@@ -17,6 +17,7 @@ pub mod Runs
 pub mod Determined
 pub mod Agrees
 pub mod Unique
+pub mod Numbers
 pub mod Demands
 pub mod Cases
 pub mod Readings

@@ -9,18 +9,14 @@ use lib.IntN.{ℤ, pos, negsuc, subℕ, negℤ, _+ℤ_, _*ℤ_, sucℤ-*ℤ, +�
 use lib.Dec.{ltb}
 use borrow.Author.Tests.{lt-ltb, le-ltb, ltb-true, ltb-false}
 use Rattle.ground.proofs.Laws.{true-or-false}
-use Rattle.ground.specs.Sizes.{bytesOf, sizeOf}
-use Rattle.words.specs.Dtypes.{dtypeOf}
-use Rattle.words.specs.declared.Offset.the-variants.{Imm, Reg}
-use Rattle.words.specs.declared.Insn.{Insn}
-use Rattle.words.specs.declared.Insn.the-variants.{Replicate, ByElement, Contiguous, Block}
+use Rattle.loads.specs.Insns.{Insn, Shape, Replicate, ByElement, Contiguous, Block, Imm, Reg}
 use Rattle.memory.proofs.Moves.{wrap-on}
 use Rattle.memory.specs.Addresses.{wrap, wrapℤ, plusOf, movedOf}
 use Rattle.loads.specs.Benches.{Lent}
 use Rattle.loads.specs.Terms.{scalar, signed4, blockBytes}
-use Rattle.loads.specs.Plans.{planOf}
+use Rattle.loads.specs.Plans.{spreadOf, planWith, planOf}
 use Rattle.loads.specs.Lanes.{elementAt}
-use Rattle.loads.specs.Said.{m, N, Active, lies, byteAt}
+use Rattle.loads.specs.Said.{m, N, ActiveAs, Active, liesAs, lies, byteAt}
 
 -- (s + e) × m
 spread : (s : ℤ) (e k : ℕ) → (s +ℤ pos e) *ℤ pos k ≡ s *ℤ pos k +ℤ pos (e * k)
@@ -61,20 +57,20 @@ by-register a x e k = rw (add-mul x e k) (omega arith)
 pub at-first : (a e k : ℕ) → e ≡ 0 → plusOf a (e * k) ≡ wrap a
 at-first a e k h = rw (h, zero-mul, add-zero)
 
-module _ (l : Lent) (x : List ℕ) where
+module _ (l : Lent) (x : List ℕ) (i : Insn) where
   -- every active element lies where the scope of work says
-  pub element-lies : (i : Insn) (e : ℕ) → Active l i e → elementAt (planOf (l .settings .vl) x i) e ≡ wrapℤ (lies l x i e)
-  unfolding elementAt planOf
-  element-lies (Replicate q size back rn rt) e a = at-first (scalar x rn) e (bytesOf (sizeOf size)) a
-  element-lies (ByElement dtype imm6 pg rn zt) e a = at-first (wrap (scalar x rn + imm6 * bytesOf (dtypeOf dtype .memory))) e _ (a .0) ∙ omega arith
-  element-lies (Contiguous dtype (Imm v) pg rn zt) e a = let i = Contiguous dtype (Imm v) pg rn zt in by-immediate (scalar x rn) (signed4 v) (N l i) e (m i)
-  element-lies (Contiguous dtype (Reg r) pg rn zt) e a = by-register (scalar x rn) (scalar x r) e (m (Contiguous dtype (Reg r) pg rn zt))
-  element-lies (Block wide msz (Imm v) pg rn zt) e a = sym (on-from (scalar x rn) (signed4 v *ℤ pos (blockBytes wide)) _)
-  element-lies (Block wide msz (Reg r) pg rn zt) e a = by-register (scalar x rn) (scalar x r) e (m (Block wide msz (Reg r) pg rn zt))
+  element-lies : (s : Shape) (e : ℕ) → ActiveAs s l i e → elementAt (planWith i (spreadOf (l .settings .vl) x i s)) e ≡ wrapℤ (liesAs s l x i e)
+  unfolding elementAt spreadOf
+  element-lies (Replicate q back) e a = at-first (scalar x (i .base)) e (m i) a
+  element-lies (ByElement imm6) e a = at-first (wrap (scalar x (i .base) + imm6 * m i)) e _ (a .0) ∙ omega arith
+  element-lies (Contiguous (Imm v)) e a = by-immediate (scalar x (i .base)) (signed4 v) (N l i) e (m i)
+  element-lies (Contiguous (Reg r)) e a = by-register (scalar x (i .base)) (scalar x r) e (m i)
+  element-lies (Block wide (Imm v)) e a = sym (on-from (scalar x (i .base)) (signed4 v *ℤ pos (blockBytes wide)) _)
+  element-lies (Block wide (Reg r)) e a = by-register (scalar x (i .base)) (scalar x r) e (m i)
 
   -- and each of its bytes
-  pub byte-lies : (i : Insn) (e k : ℕ) → Active l i e → plusOf (elementAt (planOf (l .settings .vl) x i) e) k ≡ byteAt l x i e k
-  byte-lies i e k a = sym (wrap-on (lies l x i e) k ∙ ap (λ (n : ℕ). plusOf n k) (sym (element-lies i e a)))
+  pub byte-lies : (e k : ℕ) → Active l i e → plusOf (elementAt (planOf (l .settings .vl) x i) e) k ≡ byteAt l x i e k
+  byte-lies e k a = sym (wrap-on (lies l x i e) k ∙ ap (λ (n : ℕ). plusOf n k) (sym (element-lies (i .shape) e a)))
 
 -- a field of four bits as a number from -8 to 7: 8 more than it is the field and 8, modulo 16
 pub signed-field : (v : ℕ) → v < 16 → signed4 v +ℤ pos 8 ≡ pos ((v + 8) % 16)

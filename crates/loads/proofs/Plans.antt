@@ -6,16 +6,13 @@ use native.Mathlib.Nat.{mul-assoc, le-div-iff-mul-le, div-mul-le-self}
 use native.Mathlib.Omega.{arith}
 use lib.Dec.{eqb, lit<, lit≤}
 use Rattle.ground.proofs.Laws.{if-cases}
-use Rattle.ground.specs.Sizes.{bytesOf, sizeOf}
+use Rattle.ground.specs.Sizes.{bytesOf}
 use Rattle.ground.specs.declared.Size.{Size}
 use Rattle.ground.specs.declared.Size.the-variants.{B8, B16, B32, B64}
-use Rattle.words.specs.Dtypes.{dtypeOf}
-use Rattle.words.specs.declared.Insn.{Insn}
-use Rattle.words.specs.declared.Insn.the-variants.{Replicate, ByElement, Contiguous, Block}
-use Rattle.words.proofs.Ranges.{InsnInRange}
-use Rattle.words.proofs.Rule.{never-wider}
+use Rattle.loads.specs.Insns.{Insn, Shape, Replicate, ByElement, Contiguous, Block}
+use Rattle.words.proofs.Ranges.{ShapeInRange, InsnInRange}
 use Rattle.loads.specs.Terms.{blockBytes}
-use Rattle.loads.specs.Plans.{planOf}
+use Rattle.loads.specs.Plans.{spreadOf, planWith}
 use Rattle.loads.specs.Sounds.{Sound}
 use Rattle.loads.proofs.Fields.{few, lanes-most}
 use Rattle.loads.proofs.Actives.{block-bytes, block-some}
@@ -56,13 +53,17 @@ module _ (vl : ℕ) (x : List ℕ) (least : 128 ≤ vl) (most : vl ≤ 2048) whe
   at-most : (s : Size) {n : ℕ} → n ≤ vl / (8 * bytesOf s) → n ≤ 256
   at-most s h = omega (arith, lanes-most s vl most, h)
 
-  pub sound : (i : Insn) → InsnInRange i → Sound (planOf vl x i)
-  unfolding planOf
-  sound (Replicate q size back rn rt) h =
-      record { some = lit< tt; few = lit≤ tt; filled = at-most (sizeOf size) (sixteen (sizeOf size) vl _ least (if-cases (λ (n : ℕ). n ≤ 16) (eqb q 1) 16 8 (λ _. lit≤ tt) (λ _. lit≤ tt))); narrower = omega arith; pg = lit< tt; base = h .3; target = h .4 }
-  sound (ByElement dtype imm6 pg rn zt) h =
-      record { some = lit< tt; few = lit≤ tt; filled = lanes-most (dtypeOf dtype .lane) vl most; narrower = never-wider dtype; pg = h .2; base = h .3; target = h .4 }
-  sound (Contiguous dtype o pg rn zt) h =
-      record { some = lane-some (dtypeOf dtype .lane) vl least; few = few vl x (Contiguous dtype o pg rn zt) most; filled = lanes-most (dtypeOf dtype .lane) vl most; narrower = never-wider dtype; pg = h .2; base = h .3; target = h .4 }
-  sound (Block wide msz o pg rn zt) h =
-      record { some = block-some wide (sizeOf msz); few = few vl x (Block wide msz o pg rn zt) most; filled = let b = block-bytes wide in at-most (sizeOf msz) (blocks-in (sizeOf msz) vl (blockBytes wide) (b .0)); narrower = omega arith; pg = h .2; base = h .3; target = h .4 }
+  module _ (i : Insn) (fine : InsnInRange i) where
+    pub sound : (s : Shape) → ShapeInRange i s → Sound (planWith i (spreadOf vl x i s))
+    unfolding spreadOf
+    sound (Replicate q back) h =
+        record { some = lit< tt; few = lit≤ tt; filled = at-most (i .element .lane) (sixteen (i .element .lane) vl _ least (if-cases (λ (n : ℕ). n ≤ 16) (eqb q 1) 16 8 (λ _. lit≤ tt) (λ _. lit≤ tt))); narrower = fine .narrower; governed = h .3; consulted = lit≤ tt; base = fine .base; target = fine .target }
+    sound (ByElement imm6) h =
+        let n = lanes-most (i .element .lane) vl most in
+        record { some = lit< tt; few = lit≤ tt; filled = n; narrower = fine .narrower; governed = h .1; consulted = n; base = fine .base; target = fine .target }
+    sound (Contiguous o) h =
+        let n = lanes-most (i .element .lane) vl most in
+        record { some = lane-some (i .element .lane) vl least; few = n; filled = n; narrower = fine .narrower; governed = h .1; consulted = n; base = fine .base; target = fine .target }
+    sound (Block wide o) h =
+        let k = few vl x i (Block wide o) most in
+        record { some = block-some wide (i .element .lane); few = k; filled = let b = block-bytes wide in at-most (i .element .lane) (blocks-in (i .element .lane) vl (blockBytes wide) (b .0)); narrower = fine .narrower; governed = h .1; consulted = k; base = fine .base; target = fine .target }

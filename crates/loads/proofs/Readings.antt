@@ -13,10 +13,10 @@ use Rattle.memory.specs.Bytes.{judged, lookOf}
 use Rattle.memory.specs.Elements.{readingOf}
 use Rattle.loads.specs.Benches.{accepted}
 use Rattle.loads.specs.Terms.{signed4}
-use Rattle.loads.specs.Plans.{planOf}
-use Rattle.loads.specs.Lanes.{governing, bitOf, laneActive, wanted, asked, takes, elementAt}
+use Rattle.loads.specs.Plans.{spreadOf}
+use Rattle.loads.specs.Lanes.{governing, bitOf, laneActive, wanted, asked, takes, checksStack, elementAt}
 use Rattle.loads.specs.Outcomes.{answersIn, surveyOf, extended, laneValue, registerByte, registerOf, baseAfter, scalarsAfter, benchAfter, outcomeOf}
-use Rattle.loads.specs.Steps.{checksStack, stackFails, refusals, plannedLoad, planned, prepared, stepOf}
+use Rattle.loads.specs.Steps.{stackFails, refusals, plannedLoad, planned, prepared, stepOf}
 use Rattle.loads.proofs.Cases.{Case, allRight, every, none, only, _≔_, sp, pc, zone, empty, page, on, sveOff, simdOff, f64mmAndSveOff, setUp, ran, faults, refuses, rising, eight, zeros, nines, copies, plain}
 
 -- the starred rows, in the order of the scope of work
@@ -107,5 +107,5 @@ abbrev pub table : List Case
 table = starred ++ ours
 
 pub readings : allRight table ≡ true
-unfolding replaced sizeOf dtypes dtypeOf scalarOf families readOf movedOf areaTaken apart areasTaken holds placeOf judged lookOf readingOf accepted signed4 planOf governing bitOf laneActive wanted asked takes elementAt answersIn surveyOf extended laneValue registerByte registerOf baseAfter scalarsAfter benchAfter outcomeOf checksStack stackFails refusals plannedLoad planned prepared stepOf
+unfolding replaced sizeOf dtypes dtypeOf scalarOf families readOf movedOf areaTaken apart areasTaken holds placeOf judged lookOf readingOf accepted signed4 spreadOf governing bitOf laneActive wanted asked takes elementAt answersIn surveyOf extended laneValue registerByte registerOf baseAfter scalarsAfter benchAfter outcomeOf checksStack stackFails refusals plannedLoad planned prepared stepOf
 readings = refl

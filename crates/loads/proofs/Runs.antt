@@ -1,25 +1,23 @@
 -- A load that is ready, and whose active elements can all be read, leaves what the scope of work says.
-use mathlib.Core.Path.{_≡_, refl, sym, ap, subst, subst₂, _∙_}
+use mathlib.Core.Path.{_≡_, refl, sym, ap, subst, _∙_}
 use mathlib.Core.Bool.{Bool, true, false}
-use Prim.Native.Nat.{ℕ, _+_, _-_, _*_, _/_, _%_, _^_, _<_}
+use Prim.Native.Nat.{ℕ, _+_, _-_, _%_, _^_, _<_}
 use native.Mathlib.Nat.{zero-add, zero-mod}
 use native.Mathlib.Omega.{arith}
 use lib.ListN.{length, getD}
 use Rattle.ground.specs.Choices.{if_then_else_}
 use Rattle.ground.specs.Lists.{little}
 use Rattle.ground.proofs.Laws.{off, little-cong, little-below}
-use Rattle.ground.specs.Sizes.{bytesOf}
-use Rattle.ground.specs.declared.Size.{Size}
 use Rattle.words.specs.Families.{readOf}
-use Rattle.words.specs.declared.Insn.{Insn}
-use Rattle.words.specs.declared.Decoded.the-variants.{Is}
+use Rattle.loads.specs.Insns.{Insn, Is}
 use Rattle.words.proofs.Ranges.{InsnInRange, InRange, in-range}
 use Rattle.memory.specs.Addresses.{wrap, plusOf}
 use Rattle.memory.specs.Areas.{Areas}
 use Rattle.memory.specs.Bytes.{readRight, judged, lookOf}
 use Rattle.memory.specs.Said.{Taken}
 use Rattle.memory.specs.Troubles.{ByteAt, byteOf}
-use Rattle.memory.specs.declared.Cell.the-variants.{Byte, Denied}
+use Rattle.memory.specs.declared.Fault.the-variants.{Denied}
+use Rattle.memory.specs.declared.Cell.the-variants.{Byte, Bad}
 use Rattle.memory.specs.declared.Reading.{Reading}
 use Rattle.memory.specs.declared.Reading.the-variants.{Value}
 use Rattle.memory.proofs.Looks.{looked}
@@ -31,11 +29,11 @@ use Rattle.loads.specs.Plans.{planOf}
 use Rattle.loads.specs.Lanes.{governing, asked, takes, elementAt}
 use Rattle.loads.specs.Outcomes.{Outcome, answersOf, extended, laneValue, benchAfter, outcomeOf}
 use Rattle.loads.specs.Steps.{stepOf}
-use Rattle.loads.specs.Said.{laneOf, m, L, N, signOf, targetOf, Active, byteAt, CanRead}
+use Rattle.loads.specs.Said.{m, L, N, Active, byteAt, CanRead}
 use Rattle.loads.specs.Leaves.{Contains, Takes, laneIn, Leaves}
 use Rattle.loads.specs.Given.{Ready, AllReadable}
 use Rattle.loads.specs.declared.Plan.{Plan}
-use Rattle.loads.proofs.Fields.{fields, registers, narrower, adds-back, back-adds}
+use Rattle.loads.proofs.Fields.{adds-back, back-adds}
 use Rattle.loads.proofs.Places.{byte-lies}
 use Rattle.loads.proofs.Actives.{takes-there, there-takes, taken-active}
 use Rattle.loads.proofs.Faults.{below-all, can-read, answer-is}
@@ -48,7 +46,7 @@ found : (s : Areas) (taken : Taken s) (a v : ℕ) → CanRead s a → Contains s
 unfolding judged
 found s taken a v c (r, o, h, e, k) = go (readRight (r .rights) (a - r .start)) (looked s taken a o h) (can-read s taken a .1 c)
   where
-    go : (t : Bool) → lookOf s a ≡ (if t then Byte (getD (r .bytes) (a - r .start) 0) else Denied) → ByteAt (lookOf s) a → byteOf (lookOf s a) ≡ v
+    go : (t : Bool) → lookOf s a ≡ (if t then Byte (getD (r .bytes) (a - r .start) 0) else Bad Denied) → ByteAt (lookOf s) a → byteOf (lookOf s a) ≡ v
     go true p q = ap byteOf p ∙ sym e
     go false p q = let d = q .1 in let z : _≡_ {A = ℕ} 0 1 = cc in absurd (omega arith)
 
@@ -81,54 +79,45 @@ module _ (l : Lent) (w : ℕ) (b : Bench) (i : Insn) (ready : Ready l w b i) (al
   abbrev after : Bench
   after = benchAfter answer l b plan
 
-  abbrev Lane : ℕ → ℕ → Size → Type 0
-  Lane k t s = k < l .settings .vl / (8 * bytesOf s) → laneIn l (after .vectors) t (bytesOf s) k ≡ laneValue answer plan (governing l plan) k % 256 ^ bytesOf s
-
   in-file : plan .target < 32
-  in-file = rw (fields (l .settings .vl) (b .scalars) i .target) (registers i fine .1)
+  in-file = fine .target
 
   -- the number in lane k, in the scope's words
-  lane-said : (k : ℕ) → Lane k (targetOf i) (laneOf i)
+  lane-said : (k : ℕ) → k < N l i → laneIn l (after .vectors) (i .target) (L i) k ≡ laneValue answer plan (governing l plan) k % 256 ^ L i
   unfolding benchAfter
-  lane-said k =
-      let f = fields (l .settings .vl) (b .scalars) i in
-      let a = ready .defined .accepted in
-      subst₂ (Lane k) (f .target) (f .lane) (lane-is answer l (b .vectors) plan (a .multiple) (a .vectors) in-file k)
+  lane-said k = let a = ready .defined .accepted in lane-is answer l (b .vectors) plan (a .multiple) (a .vectors) in-file k
 
-  value-said : (k e v : ℕ) → k < N l i → Takes l i k e → answer e ≡ Value v → laneValue answer plan (governing l plan) k ≡ extended (signOf i) (m i) (L i) v
+  value-said : (k e v : ℕ) → k < N l i → Takes l i k e → answer e ≡ Value v → laneValue answer plan (governing l plan) k ≡ extended (i .element .signed) (m i) (L i) v
   unfolding laneValue
   value-said k e v h t r =
-      let f = fields (l .settings .vl) (b .scalars) i in
       let a = ready .defined .accepted in
-      let q = takes-there l (b .scalars) (a .multiple) (a .least) i fine (ready .defined .long) k e h t in
-      rw (q .0, q .1, r, f .signed, f .memory, f .lane)
+      let q = takes-there l (b .scalars) (a .multiple) (a .least) i (i .shape) (fine .shape) (ready .defined .long) k e h t in
+      rw (q .0, q .1, r)
 
   nothing-said : (k : ℕ) → k < N l i → ((e : ℕ) → Takes l i k e → ⊥) → laneValue answer plan (governing l plan) k ≡ 0
   unfolding laneValue
   nothing-said k h none =
       let a = ready .defined .accepted in
-      rw (off (takes plan (governing l plan) k) (λ t. none _ (there-takes l (b .scalars) (a .multiple) (a .least) i fine (ready .defined .long) k h t)))
+      rw (off (takes plan (governing l plan) k) (λ t. none _ (there-takes l (b .scalars) (a .multiple) (a .least) i (i .shape) (fine .shape) (ready .defined .long) k h t)))
 
   pub leaves : Leaves l b i l after
   unfolding benchAfter
   leaves =
-      let f = fields (l .settings .vl) (b .scalars) i in
       let a = ready .defined .accepted in
-      let base : plan .base < 32 = rw (f .base) (registers i fine .0) in
+      let base = fine .base in
       record {
         lane = λ k e h t v c.
-            let q = taken-active l (b .scalars) (a .multiple) (a .least) i k e h t in
-            rw (lane-said k h, value-said k e _ h t (read-as e q v c)) (extends (m i) (L i) (little v 0 (m i)) (narrower i) (little-below v 0 (m i) (λ j g. rw zero-add (c j g .4))) (signOf i));
+            let q = taken-active l (b .scalars) (a .multiple) (a .least) i (i .shape) k e h t in
+            rw (lane-said k h, value-said k e _ h t (read-as e q v c)) (extends (m i) (L i) (little v 0 (m i)) (fine .narrower) (little-below v 0 (m i) (λ j g. rw zero-add (c j g .4))) (i .element .signed));
         zero = λ k h none. rw (lane-said k h, nothing-said k h none) (zero-mod _);
-        bytes = λ j h. rw (← f .target) (small answer l (b .vectors) plan (a .multiple) (a .vectors) in-file j h);
-        below = λ j h. kept-below answer l (b .vectors) plan (a .multiple) (a .vectors) in-file j (rw (f .target) h);
-        above = λ j h. kept-above answer l (b .vectors) plan (a .multiple) (a .vectors) in-file j (rw (f .target) h);
+        bytes = small answer l (b .vectors) plan (a .multiple) (a .vectors) in-file;
+        below = kept-below answer l (b .vectors) plan (a .multiple) (a .vectors) in-file;
+        above = kept-above answer l (b .vectors) plan (a .multiple) (a .vectors) in-file;
         vectors = kept-length answer l (b .vectors) plan (a .multiple) (a .vectors) in-file;
-        base = λ v d. let r = adds-back (l .settings .vl) (b .scalars) i v d in
-            subst (λ (n : ℕ). scalar (after .scalars) n ≡ wrap (scalar (b .scalars) n + v)) (f .base)
-            (written-back plan (b .scalars) (a .scalars) base (r .0) ∙ ap (λ (y : ℕ). wrap (scalar (b .scalars) (plan .base) + y)) (r .1));
+        base = λ v d. let r = adds-back (l .settings .vl) (b .scalars) i (i .shape) v d in
+            written-back plan (b .scalars) (a .scalars) base (r .0) ∙ ap (λ (y : ℕ). wrap (scalar (b .scalars) (i .base) + y)) (r .1);
         pc = counter plan (b .scalars) (a .scalars) base;
-        others = λ n pc h. kept-scalar plan (b .scalars) (a .scalars) base n pc (λ t e. let r = back-adds (l .settings .vl) (b .scalars) i t in h (r .0) (r .1) (e ∙ f .base));
+        others = λ n pc h. kept-scalar plan (b .scalars) (a .scalars) base n pc (λ t e. let r = back-adds (l .settings .vl) (b .scalars) i (i .shape) t in h (r .0) (r .1) e);
         scalars = scalars-length plan (b .scalars) (a .scalars) base;
         ram = refl;
         lent = refl;

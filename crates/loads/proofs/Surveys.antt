@@ -10,10 +10,11 @@ use mathlib.Core.Logic.{⊎-elim}
 use lib.Dec.{leb}
 use borrow.Author.Tests.{leb-true, leb-false}
 use Rattle.ground.proofs.Laws.{true-or-false}
-use Rattle.words.specs.declared.Insn.{Insn}
+use Rattle.loads.specs.Insns.{Insn}
 use Rattle.ground.specs.Lists.{upFrom}
 use Rattle.memory.specs.declared.Reading.{Reading}
-use Rattle.memory.specs.Troubles.{Bad, bad}
+use Rattle.memory.specs.Troubles.{bad}
+use Rattle.memory.specs.declared.Fault.{Fault}
 use Rattle.loads.specs.Benches.{Lent, Bench}
 use Rattle.loads.specs.Answers.{report}
 use Rattle.loads.specs.Plans.{planOf}
@@ -42,7 +43,7 @@ module _ (l : Lent) (b : Bench) (i : Insn) (a : Accepted l b) (long : Wide i →
   elements = plan .elements
 
   pub asks : (e : ℕ) → ((e < elements) × (want e ≡ true)) ↔ Active l i e
-  asks = active l (b .scalars) (a .multiple) (a .least) i long
+  asks = active l (b .scalars) (a .multiple) (a .least) i (i .shape) long
 
   pub counts : (e : ℕ) → e ≤ elements → Counted (Active l i) e (many want 0 e)
   counts e h = counted want (Active l i) e (λ f k. (λ t. asks f .0 (omega arith, t), λ q. asks f .1 q .1))
@@ -52,7 +53,7 @@ module _ (l : Lent) (b : Bench) (i : Insn) (a : Accepted l b) (long : Wide i →
 
   pub counts-all : Counted (Active l i) most (many want 0 elements)
   counts-all =
-      let n : elements + (most - elements) ≡ most = let k = few (l .settings .vl) (b .scalars) i (a .most) in omega arith in
+      let n : elements + (most - elements) ≡ most = let k = few (l .settings .vl) (b .scalars) i (i .shape) (a .most) in omega arith in
       rw n at (counts-beyond (most - elements))
 
   pub count-exists : (e : ℕ) → (n : ℕ) × Counted (Active l i) e n
@@ -79,7 +80,7 @@ module _ (l : Lent) (b : Bench) (i : Insn) (a : Accepted l b) (long : Wide i →
   survey-clear h = survey-is ∙ walk-clear want answer 0 0 _ (all-clear h) ∙ ap (λ (n : ℕ). report 0 n 0 0) (zero-add _)
 
   -- the first bad byte of the scope's table is what stops the walk
-  abbrev pub first-stops : (t : Bad) (e k : ℕ) → FirstBad (IsBad t) l b i e k → Stopped want answer 0 elements
+  abbrev pub first-stops : (t : Fault) (e k : ℕ) → FirstBad (IsBad t) l b i e k → Stopped want answer 0 elements
   first-stops t e k f =
       let q = asks e .1 (f .active) in
       let h = q .0 in

@@ -12,19 +12,16 @@ use borrow.Author.Tests.{eqb-true, eqb-false}
 use Rattle.ground.specs.Choices.{if_then_else_}
 use Rattle.ground.specs.Lists.{upFrom}
 use Rattle.ground.proofs.Laws.{true-or-false, never}
-use Rattle.memory.specs.Troubles.{Bad, nowhere, denied, Trouble, none, bad, troubleOf}
+use Rattle.memory.specs.Troubles.{Trouble, none, bad, troubleOf}
+use Rattle.memory.specs.declared.Fault.{Fault}
 use Rattle.memory.specs.declared.Reading.{Reading}
 use Rattle.memory.specs.declared.Reading.the-variants as R
-use Rattle.loads.specs.Answers.{Report, report}
+use Rattle.loads.specs.Answers.{faultNumber, Report, report}
 use Rattle.loads.specs.Outcomes.{onReading, walk}
 
 -- how many of i, i + 1 and on, n of them, are asked for
 abbrev pub many : (ℕ → Bool) → ℕ → ℕ → ℕ
 many want i n = length (upFrom want i n)
-
-abbrev pub number : Bad → ℕ
-number nowhere = 6
-number denied = 7
 
 -- element e is found good, and so are all elements asked for from i up to it
 abbrev pub Good : (ℕ → Reading) → ℕ → Type 0
@@ -40,20 +37,18 @@ pub record Stopped (want : ℕ → Bool) (answer : ℕ → Reading) (i n : ℕ) 
   pub to : e < i + n
   pub asked : want e ≡ true
   pub clear : Clear want answer i e
-  pub kind : Bad
+  pub kind : Fault
   pub at : ℕ
   pub trouble : troubleOf (answer e) ≡ bad kind at
 
 module _ (want : ℕ → Bool) (answer : ℕ → Reading) where
   on-good : (r : Reading) (e c : ℕ) (rest : Report) → troubleOf r ≡ none → onReading r e c rest ≡ rest
   on-good (R.Value v) e c rest h = refl
-  on-good (R.Nowhere x) e c rest h = let z : _≡_ {A = ℕ} 0 1 = cc in absurd (omega arith)
-  on-good (R.Denied x) e c rest h = let z : _≡_ {A = ℕ} 0 1 = cc in absurd (omega arith)
+  on-good (R.Bad f x) e c rest h = let z : _≡_ {A = ℕ} 0 1 = cc in absurd (omega arith)
 
-  on-bad : (r : Reading) (e c : ℕ) (rest : Report) (k : Bad) (a : ℕ) → troubleOf r ≡ bad k a → onReading r e c rest ≡ report (number k) c e a
+  on-bad : (r : Reading) (e c : ℕ) (rest : Report) (k : Fault) (a : ℕ) → troubleOf r ≡ bad k a → onReading r e c rest ≡ report (faultNumber k) c e a
   on-bad (R.Value v) e c rest k a h = let z : _≡_ {A = ℕ} 0 1 = cc in absurd (omega arith)
-  on-bad (R.Nowhere x) e c rest k a h = cc
-  on-bad (R.Denied x) e c rest k a h = cc
+  on-bad (R.Bad f x) e c rest k a h = cc
 
   pub walk-clear : (c i n : ℕ) → Clear want answer i (i + n) → walk answer c (upFrom want i n) ≡ report 0 (c + many want i n) 0 0
   walk-clear c i zero h = rw add-zero
@@ -76,7 +71,7 @@ module _ (want : ℕ → Bool) (answer : ℕ → Reading) where
       let t = s .to in
       record { e = s .e; from = omega arith; to = omega arith; asked = s .asked; clear = λ j g k w. s .clear j (omega arith) k w; kind = s .kind; at = s .at; trouble = s .trouble }
 
-  pub walk-stopped : (c i n : ℕ) (s : Stopped want answer i n) → walk answer c (upFrom want i n) ≡ report (number (s .kind)) (c + many want i (s .e - i)) (s .e) (s .at)
+  pub walk-stopped : (c i n : ℕ) (s : Stopped want answer i n) → walk answer c (upFrom want i n) ≡ report (faultNumber (s .kind)) (c + many want i (s .e - i)) (s .e) (s .at)
   walk-stopped c i zero s = let f = s .from in let t = s .to in absurd (omega arith)
   walk-stopped c i (suc n) s =
       ⊎-elim
@@ -88,7 +83,7 @@ module _ (want : ℕ → Bool) (answer : ℕ → Reading) where
       rest = upFrom want (i + 1) n
 
       told : ℕ → Report
-      told k = report (number (s .kind)) k (s .e) (s .at)
+      told k = report (faultNumber (s .kind)) k (s .e) (s .at)
 
       here : s .e ≡ i → walk answer c (if want i then i ∷ rest else rest) ≡ told (c + many want i (s .e - i))
       here h =

@@ -3,7 +3,7 @@ use Prim.Native.Nat.{ℕ, _-_, _<_}
 use mathlib.Core.Path.{_≡_}
 use mathlib.Core.Logic.{_↔_}
 use lib.ListN.{length, getD}
-use Rattle.words.specs.declared.Insn.{Insn}
+use Rattle.loads.specs.Insns.{Insn}
 use Rattle.memory.specs.Areas.{Area}
 use Rattle.memory.specs.Said.{Holds, Right, Both}
 use Rattle.loads.specs.Benches.{Lent, Bench, areas}

@@ -1,8 +1,15 @@
 -- "When the bench says no": the numbers of the scope of work, for each case of the answer.
 use Prim.Native.Nat.{ℕ}
 use Rattle.loads.specs.declared.Answer.{Answer}
-use Rattle.loads.specs.declared.Answer.the-variants.{Ran, SetUp, Outside, Undefined, SwitchedOff, Stack, NoMemory, Denied}
+use Rattle.memory.specs.declared.Fault.{Fault}
+use Rattle.memory.specs.declared.Fault.the-variants.{Nowhere, Denied}
+use Rattle.loads.specs.declared.Answer.the-variants.{Ran, SetUp, Outside, Undefined, SwitchedOff, Stack, Faulted}
 use Rattle.loads.specs.declared.StepResult.{StepResult}
+
+-- a byte in neither area, and a byte in a page without the read right
+abbrev pub faultNumber : Fault → ℕ
+faultNumber Nowhere = 6
+faultNumber Denied = 7
 
 abbrev pub numberOf : Answer → ℕ
 numberOf Ran = 0
@@ -11,8 +18,7 @@ numberOf Outside = 2
 numberOf Undefined = 3
 numberOf SwitchedOff = 4
 numberOf Stack = 5
-numberOf (NoMemory a e) = 6
-numberOf (Denied a e) = 7
+numberOf (Faulted f a e) = faultNumber f
 
 -- "Both carry its address and its lane. Other answers carry 0 for both."
 abbrev pub elementOf : Answer → ℕ
@@ -22,8 +28,7 @@ elementOf Outside = 0
 elementOf Undefined = 0
 elementOf SwitchedOff = 0
 elementOf Stack = 0
-elementOf (NoMemory a e) = e
-elementOf (Denied a e) = e
+elementOf (Faulted f a e) = e
 
 abbrev pub addressOf : Answer → ℕ
 addressOf Ran = 0
@@ -32,8 +37,7 @@ addressOf Outside = 0
 addressOf Undefined = 0
 addressOf SwitchedOff = 0
 addressOf Stack = 0
-addressOf (NoMemory a e) = a .0
-addressOf (Denied a e) = a .0
+addressOf (Faulted f a e) = a .0
 
 -- what a step tells, in those numbers
 pub record Report : Type 0 where

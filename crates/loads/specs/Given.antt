@@ -3,14 +3,12 @@ use Prim.Native.Nat.{ℕ, suc, _%_, _≤_, _<_}
 use mathlib.Core.Path.{_≡_}
 use mathlib.Core.Bool.{true, false}
 use Rattle.words.specs.Families.{readOf}
-use Rattle.words.specs.declared.Insn.{Insn}
-use Rattle.words.specs.declared.Insn.the-variants.{Replicate, ByElement, Contiguous, Block}
-use Rattle.words.specs.declared.Decoded.the-variants.{Outside, Undefined, Is}
+use Rattle.loads.specs.Insns.{Insn, Shape, Replicate, ByElement, Contiguous, Block, Outside, Undefined, Is}
 use Rattle.memory.specs.Areas.{Areas}
 use Rattle.loads.specs.Benches.{Lent, Bench, areas}
 use Rattle.loads.specs.Answers.{Report, report}
 use Rattle.loads.specs.Terms.{scalar}
-use Rattle.loads.specs.Said.{Accepted, m, baseOf, Active, Checks, byteAt, CanRead, Missing, Forbidden}
+use Rattle.loads.specs.Said.{Accepted, m, Active, Checks, byteAt, CanRead, Missing, Forbidden}
 
 -- byte k of active element e is the first that is bad so: every byte of the active elements before it, and every byte of e
 -- before it, can be read
@@ -28,18 +26,24 @@ pub data Counted (P : ℕ → Type 0) : ℕ → ℕ → Type 0 where
   miss : {e n : ℕ} → (P e → ⊥) → Counted P e n → Counted P (suc e) n
 
 -- LD1RO
+abbrev pub WideAs : Shape → Type 0
+WideAs (Replicate q back) = ⊥
+WideAs (ByElement imm6) = ⊥
+WideAs (Contiguous offset) = ⊥
+WideAs (Block wide offset) = wide ≡ true
+
 abbrev pub Wide : Insn → Type 0
-Wide (Replicate q size back rn rt) = ⊥
-Wide (ByElement dtype imm6 pg rn zt) = ⊥
-Wide (Contiguous dtype offset pg rn zt) = ⊥
-Wide (Block wide msz offset pg rn zt) = wide ≡ true
+Wide i = WideAs (i .shape)
 
 -- "LD1R with SIMD off; any other with SVE off" earns 4
+abbrev pub OnAs : Shape → Lent → Type 0
+OnAs (Replicate q back) l = l .settings .simd ≡ true
+OnAs (ByElement imm6) l = l .settings .sve ≡ true
+OnAs (Contiguous offset) l = l .settings .sve ≡ true
+OnAs (Block wide offset) l = l .settings .sve ≡ true
+
 abbrev pub On : Lent → Insn → Type 0
-On l (Replicate q size back rn rt) = l .settings .simd ≡ true
-On l (ByElement dtype imm6 pg rn zt) = l .settings .sve ≡ true
-On l (Contiguous dtype offset pg rn zt) = l .settings .sve ≡ true
-On l (Block wide msz offset pg rn zt) = l .settings .sve ≡ true
+On l i = OnAs (i .shape) l
 
 -- an accepted set-up whose word is a load that is defined and on
 pub record Defined (l : Lent) (w : ℕ) (b : Bench) (i : Insn) : Type 0 where
@@ -52,7 +56,7 @@ pub record Defined (l : Lent) (w : ℕ) (b : Bench) (i : Insn) : Type 0 where
 -- .. and the stack rule holds: "SP as base must be a multiple of 16"
 pub record Ready (l : Lent) (w : ℕ) (b : Bench) (i : Insn) : Type 0 where
   pub defined : Defined l w b i
-  pub stack : baseOf i ≡ 31 → Checks l i → scalar (b .scalars) 31 % 16 ≡ 0
+  pub stack : i .base ≡ 31 → Checks l i → scalar (b .scalars) 31 % 16 ≡ 0
 
 abbrev pub AllReadable : Lent → Bench → Insn → Type 0
 AllReadable l b i = (e : ℕ) → Active l i e → (k : ℕ) → k < m i → CanRead (areas l b) (byteAt l (b .scalars) i e k)
@@ -70,6 +74,6 @@ pub data Given (l : Lent) (w : ℕ) (b : Bench) : Report → Type 0 where
   no-f64mm : (i : Insn) → Accepted l b → readOf w ≡ Is i → Wide i → l .settings .f64mm ≡ false → Given l w b (report 3 0 0 0)
   switched-off : (i : Insn) → Accepted l b → readOf w ≡ Is i → (Wide i → l .settings .f64mm ≡ true) → (On l i → ⊥) → Given l w b (report 4 0 0 0)
   short : (i : Insn) → Accepted l b → readOf w ≡ Is i → Wide i → l .settings .f64mm ≡ true → On l i → l .settings .vl < 256 → Given l w b (report 3 0 0 0)
-  stack : (i : Insn) → Defined l w b i → baseOf i ≡ 31 → Checks l i → (scalar (b .scalars) 31 % 16 ≡ 0 → ⊥) → Given l w b (report 5 0 0 0)
+  stack : (i : Insn) → Defined l w b i → i .base ≡ 31 → Checks l i → (scalar (b .scalars) 31 % 16 ≡ 0 → ⊥) → Given l w b (report 5 0 0 0)
   no-memory : {n : ℕ} (i : Insn) (e k : ℕ) → Ready l w b i → FirstBad Missing l b i e k → Counted (Active l i) e n → Given l w b (report 6 n e (byteAt l (b .scalars) i e k))
   denied : {n : ℕ} (i : Insn) (e k : ℕ) → Ready l w b i → FirstBad Forbidden l b i e k → Counted (Active l i) e n → Given l w b (report 7 n e (byteAt l (b .scalars) i e k))

@@ -5,26 +5,24 @@ use mathlib.Core.Bool.{Bool, true, false}
 use mathlib.Core.List.{List}
 use Rattle.ground.specs.Lists.{little}
 use lib.ListN.{length, getD}
-use Rattle.ground.specs.Sizes.{bytesOf, sizeOf}
-use Rattle.words.specs.declared.Back.the-variants.{Post}
-use Rattle.words.specs.declared.Insn.{Insn}
-use Rattle.words.specs.declared.Insn.the-variants.{Replicate, ByElement, Contiguous, Block}
+use Rattle.loads.specs.Insns.{Insn, Shape, Replicate, ByElement, Contiguous, Block, Post}
 use Rattle.memory.specs.Addresses.{wrap}
 use Rattle.memory.specs.Areas.{Area, Areas}
 use Rattle.memory.specs.Said.{Holds, Of}
 use Rattle.loads.specs.Benches.{Lent, Bench, areas}
 use Rattle.loads.specs.Terms.{scalar, blockBytes}
-use Rattle.loads.specs.Said.{signOf, m, L, N, K, baseOf, targetOf, LaneActive, byteAt}
+use Rattle.loads.specs.Said.{m, L, N, K, LaneActive, byteAt}
 
 -- lane k of the destination takes element e: in a block load element k mod K, where that one of the block's own lanes is active
+abbrev pub TakesAs : Shape → Lent → Insn → ℕ → ℕ → Type 0
+TakesAs (Replicate q back) l i k e = (e ≡ 0) × (k * L i < 8 * 2 ^ q)
+TakesAs (ByElement imm6) l i k e = (e ≡ 0) × LaneActive l i k
+TakesAs (Contiguous offset) l i k e = (e ≡ k) × LaneActive l i k
+TakesAs (Block wide offset) l i k e =
+    (e ≡ k % K wide i) × (k / K wide i < l .settings .vl / (8 * blockBytes wide)) × LaneActive l i (k % K wide i)
+
 abbrev pub Takes : Lent → Insn → ℕ → ℕ → Type 0
-Takes l (Replicate q size back rn rt) k e = (e ≡ 0) × (k * bytesOf (sizeOf size) < 8 * 2 ^ q)
-Takes l (ByElement dtype imm6 pg rn zt) k e = (e ≡ 0) × LaneActive l pg (L (ByElement dtype imm6 pg rn zt)) k
-Takes l (Contiguous dtype offset pg rn zt) k e = (e ≡ k) × LaneActive l pg (L (Contiguous dtype offset pg rn zt)) k
-Takes l (Block wide msz offset pg rn zt) k e =
-    (e ≡ k % K wide (sizeOf msz))
-    × (k / K wide (sizeOf msz) < l .settings .vl / (8 * blockBytes wide))
-    × LaneActive l pg (bytesOf (sizeOf msz)) (k % K wide (sizeOf msz))
+Takes l i k e = TakesAs (i .shape) l i k e
 
 -- the number in lane k of register t, lowest byte first
 abbrev pub laneIn : Lent → List ℕ → ℕ → ℕ → ℕ → ℕ
@@ -40,22 +38,25 @@ abbrev pub Contains : Areas → ℕ → ℕ → Type 0
 Contains a x v = (r : Area) × Of a r × Holds r x × (v ≡ getD (r .bytes) (x - r .start) 0) × (v < 256)
 
 -- "Post-index adds the read's size when Rm = 31, else Xm as it was before the step"
-pub data Adds (x : List ℕ) : Insn → ℕ → Type 0 where
-  size : {q s r rn rt : ℕ} → r ≡ 31 → Adds x (Replicate q s (Post r) rn rt) (bytesOf (sizeOf s))
-  register : {q s r rn rt : ℕ} → (r ≡ 31 → ⊥) → Adds x (Replicate q s (Post r) rn rt) (scalar x r)
+pub data AddsAs (x : List ℕ) (i : Insn) : Shape → ℕ → Type 0 where
+  size : {q r : ℕ} → r ≡ 31 → AddsAs x i (Replicate q (Post r)) (m i)
+  register : {q r : ℕ} → (r ≡ 31 → ⊥) → AddsAs x i (Replicate q (Post r)) (scalar x r)
+
+abbrev pub Adds : List ℕ → Insn → ℕ → Type 0
+Adds x i a = AddsAs x i (i .shape) a
 
 -- what a load that ran leaves, and that it leaves all else as it was
 pub record Leaves (l : Lent) (b : Bench) (i : Insn) (l′ : Lent) (b′ : Bench) : Type 0 where
   pub lane : (k e : ℕ) → k < N l i → Takes l i k e → (v : ℕ → ℕ) → ((j : ℕ) → j < m i → Contains (areas l b) (byteAt l (b .scalars) i e j) (v j))
-      → Extends (signOf i) (8 * m i) (8 * L i) (little v 0 (m i)) (laneIn l (b′ .vectors) (targetOf i) (L i) k)
-  pub zero : (k : ℕ) → k < N l i → ((e : ℕ) → Takes l i k e → ⊥) → laneIn l (b′ .vectors) (targetOf i) (L i) k ≡ 0
-  pub bytes : (j : ℕ) → j < l .settings .vl / 8 → getD (b′ .vectors) (targetOf i * (l .settings .vl / 8) + j) 0 < 256
-  pub below : (j : ℕ) → j < targetOf i * (l .settings .vl / 8) → getD (b′ .vectors) j 0 ≡ getD (b .vectors) j 0
-  pub above : (j : ℕ) → suc (targetOf i) * (l .settings .vl / 8) ≤ j → getD (b′ .vectors) j 0 ≡ getD (b .vectors) j 0
+      → Extends (i .element .signed) (8 * m i) (8 * L i) (little v 0 (m i)) (laneIn l (b′ .vectors) (i .target) (L i) k)
+  pub zero : (k : ℕ) → k < N l i → ((e : ℕ) → Takes l i k e → ⊥) → laneIn l (b′ .vectors) (i .target) (L i) k ≡ 0
+  pub bytes : (j : ℕ) → j < l .settings .vl / 8 → getD (b′ .vectors) (i .target * (l .settings .vl / 8) + j) 0 < 256
+  pub below : (j : ℕ) → j < i .target * (l .settings .vl / 8) → getD (b′ .vectors) j 0 ≡ getD (b .vectors) j 0
+  pub above : (j : ℕ) → suc (i .target) * (l .settings .vl / 8) ≤ j → getD (b′ .vectors) j 0 ≡ getD (b .vectors) j 0
   pub vectors : length (b′ .vectors) ≡ length (b .vectors)
-  pub base : (a : ℕ) → Adds (b .scalars) i a → scalar (b′ .scalars) (baseOf i) ≡ wrap (scalar (b .scalars) (baseOf i) + a)
+  pub base : (a : ℕ) → Adds (b .scalars) i a → scalar (b′ .scalars) (i .base) ≡ wrap (scalar (b .scalars) (i .base) + a)
   pub pc : scalar (b′ .scalars) 32 ≡ wrap (scalar (b .scalars) 32 + 4)
-  pub others : (n : ℕ) → (n ≡ 32 → ⊥) → ((a : ℕ) → Adds (b .scalars) i a → n ≡ baseOf i → ⊥) → scalar (b′ .scalars) n ≡ scalar (b .scalars) n
+  pub others : (n : ℕ) → (n ≡ 32 → ⊥) → ((a : ℕ) → Adds (b .scalars) i a → n ≡ i .base → ⊥) → scalar (b′ .scalars) n ≡ scalar (b .scalars) n
   pub scalars : length (b′ .scalars) ≡ length (b .scalars)
   pub ram : b′ .ram ≡ b .ram
   pub lent : l′ ≡ l

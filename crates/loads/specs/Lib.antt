@@ -1,4 +1,5 @@
 -- One step, in the order in which data walks through it; then the words that the demands are stated in.
+pub mod Insns
 pub mod Benches
 pub mod Answers
 pub mod Terms

@@ -12,9 +12,9 @@ use Rattle.memory.specs.Areas.{Areas}
 use Rattle.memory.specs.Bytes.{lookOf}
 use Rattle.memory.specs.Elements.{readingOf}
 use Rattle.memory.specs.declared.Reading.{Reading}
-use Rattle.memory.specs.declared.Reading.the-variants.{Value, Nowhere, Denied}
+use Rattle.memory.specs.declared.Reading.the-variants.{Value, Bad}
 use Rattle.loads.specs.Benches.{Lent, Bench, areas}
-use Rattle.loads.specs.Answers.{Report, report}
+use Rattle.loads.specs.Answers.{faultNumber, Report, report}
 use Rattle.loads.specs.Terms.{scalar}
 use Rattle.loads.specs.Lanes.{governing, asked, takes, elementAt}
 use Rattle.loads.specs.declared.Plan.{Plan}
@@ -34,8 +34,7 @@ answersOf l b p = answersIn (areas l b) p
 
 abbrev pub onReading : Reading → ℕ → ℕ → Report → Report
 onReading (Value v) e count rest = rest
-onReading (Nowhere x) e count rest = report 6 count e (x .0)
-onReading (Denied x) e count rest = report 7 count e (x .0)
+onReading (Bad f x) e count rest = report (faultNumber f) count e (x .0)
 
 -- the elements asked for, one after the other, to the first fault, with a count of those before it
 abbrev pub walk : (ℕ → Reading) → ℕ → List ℕ → Report
@@ -47,8 +46,7 @@ surveyOf answer p pred = walk answer 0 (asked p pred)
 
 abbrev pub valueOf : Reading → ℕ
 valueOf (Value v) = v
-valueOf (Nowhere x) = 0
-valueOf (Denied x) = 0
+valueOf (Bad f x) = 0
 
 -- a number of m bytes in a lane of n bytes: with its sign, or with zeros
 unfoldable pub extended : Bool → ℕ → ℕ → ℕ → ℕ

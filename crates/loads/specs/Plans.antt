@@ -5,20 +5,13 @@ use mathlib.Core.List.{List}
 use lib.Dec.{eqb}
 use lib.IntN.{pos, _*ℤ_}
 use Rattle.ground.specs.Choices.{if_then_else_}
-use Rattle.ground.specs.Sizes.{bytesOf, sizeOf}
+use Rattle.ground.specs.Sizes.{bytesOf}
 use Rattle.ground.specs.declared.Size.{Size}
-use Rattle.words.specs.Dtypes.{u, dtypeOf}
-use Rattle.words.specs.declared.Dtype.{Dtype}
-use Rattle.words.specs.declared.Offset.{Offset}
-use Rattle.words.specs.declared.Offset.the-variants.{Imm, Reg}
-use Rattle.words.specs.declared.Back.{Back}
-use Rattle.words.specs.declared.Back.the-variants.{Keep, Post}
-use Rattle.words.specs.declared.Insn.{Insn}
-use Rattle.words.specs.declared.Insn.the-variants.{Replicate, ByElement, Contiguous, Block}
+use Rattle.loads.specs.Insns.{Insn, Shape, Replicate, ByElement, Contiguous, Block, Offset, Imm, Reg, Back, Keep, Post}
 use Rattle.memory.specs.Addresses.{wrap, movedOf}
 use Rattle.loads.specs.Terms.{signed4, scalar, blockBytes}
 use Rattle.loads.specs.declared.Rule.{Rule}
-use Rattle.loads.specs.declared.Rule.the-variants as By
+use Rattle.loads.specs.declared.Rule.the-variants.{Always, LaneBit, ElementBit}
 use Rattle.loads.specs.declared.Plan.{Plan}
 
 -- N: VL divided by the lane size
@@ -39,53 +32,67 @@ abbrev pub amountOf : List ℕ → Size → Back → ℕ
 amountOf x size Keep = 0
 amountOf x size (Post r) = if eqb r 31 then bytesOf size else scalar x r
 
--- LD1R: one read, over 64 bits (Q=0) or 128; the rest of the register becomes zero
-abbrev pub replicatePlan : List ℕ → ℕ → Size → Back → ℕ → ℕ → Plan
-replicatePlan x q size back rn rt =
-    record {
-      start = record { 0 = scalar x rn };
-      size = size;
-      lane = size;
-      signed = false;
-      elements = 1;
-      filled = (if eqb q 1 then 16 else 8) / bytesOf size;
-      rule = By.Always;
-      pg = 0;
-      base = rn;
-      target = rt;
-      back = writesBack back;
-      amount = amountOf x size back;
-    }
+-- what a load's shape decides of its plan: where element 0 lies, its elements, the lanes that take one, what decides, the lanes that the
+-- stack rule consults, and what is written back
+pub record Spread : Type 0 where
+  pub start : ℕ
+  pub elements : ℕ
+  pub filled : ℕ
+  pub rule : Rule
+  pub consulted : ℕ
+  pub back : Bool
+  pub amount : ℕ
 
--- an SVE load: its sizes, where element 0 lies, its elements, the lanes that take one, the rule, and its registers
-abbrev pub svePlan : Dtype → ℕ → ℕ → ℕ → Rule → ℕ → ℕ → ℕ → Plan
-svePlan d start elements filled rule pg rn zt =
+-- .. of an SVE load, which writes nothing back
+abbrev pub spread : ℕ → ℕ → ℕ → Rule → ℕ → Spread
+spread start elements filled rule consulted =
+    record { start = start; elements = elements; filled = filled; rule = rule; consulted = consulted; back = false; amount = 0 }
+
+-- .. of LD1R: one read, over 64 bits (Q=0) or 128; the rest of the register becomes zero
+abbrev pub replicated : List ℕ → Insn → ℕ → Back → Spread
+replicated x i q back =
     record {
-      start = record { 0 = start };
-      size = d .memory;
-      lane = d .lane;
-      signed = d .signed;
-      elements = elements;
-      filled = filled;
-      rule = rule;
-      pg = pg;
-      base = rn;
-      target = zt;
-      back = false;
-      amount = 0;
+      start = scalar x (i .base);
+      elements = 1;
+      filled = (if eqb q 1 then 16 else 8) / bytesOf (i .element .lane);
+      rule = Always;
+      consulted = 0;
+      back = writesBack back;
+      amount = amountOf x (i .element .memory) back;
     }
 
 -- Element e lies at start + e × size; lane l of the first `filled` takes element l mod `elements`.
-unfoldable pub planOf : ℕ → List ℕ → Insn → Plan
-planOf vl x (Replicate q size back rn rt) = replicatePlan x q (sizeOf size) back rn rt
-planOf vl x (ByElement dtype imm6 pg rn zt) =
-    let d = dtypeOf dtype in
-    svePlan d (wrap (scalar x rn + imm6 * bytesOf (d .memory))) 1 (lanesIn vl (d .lane)) By.LaneBit pg rn zt
-planOf vl x (Contiguous dtype offset pg rn zt) =
-    let d = dtypeOf dtype in
-    let n = lanesIn vl (d .lane) in
-    svePlan d (startOf x rn (d .memory) (n * bytesOf (d .memory)) offset) n n By.ElementBit pg rn zt
-planOf vl x (Block wide msz offset pg rn zt) =
-    let d = u (sizeOf msz) (sizeOf msz) in
-    let k = blockBytes wide / bytesOf (d .lane) in
-    svePlan d (startOf x rn (d .memory) (blockBytes wide) offset) k (vl / (8 * blockBytes wide) * k) By.ElementBit pg rn zt
+unfoldable pub spreadOf : ℕ → List ℕ → Insn → Shape → Spread
+spreadOf vl x i (Replicate q back) = replicated x i q back
+spreadOf vl x i (ByElement imm6) =
+    let n = lanesIn vl (i .element .lane) in
+    spread (wrap (scalar x (i .base) + imm6 * bytesOf (i .element .memory))) 1 n LaneBit n
+spreadOf vl x i (Contiguous offset) =
+    let n = lanesIn vl (i .element .lane) in
+    spread (startOf x (i .base) (i .element .memory) (n * bytesOf (i .element .memory)) offset) n n ElementBit n
+-- LD1RQ and LD1RO consult the block's own lanes
+spreadOf vl x i (Block wide offset) =
+    let k = blockBytes wide / bytesOf (i .element .lane) in
+    spread (startOf x (i .base) (i .element .memory) (blockBytes wide) offset) k (vl / (8 * blockBytes wide) * k) ElementBit k
+
+-- a plan: what its instruction has, and what its shape decides
+abbrev pub planWith : Insn → Spread → Plan
+planWith i s =
+    record {
+      start = record { 0 = s .start };
+      size = i .element .memory;
+      lane = i .element .lane;
+      signed = i .element .signed;
+      elements = s .elements;
+      filled = s .filled;
+      rule = s .rule;
+      consulted = s .consulted;
+      governing = i .governing;
+      base = i .base;
+      target = i .target;
+      back = s .back;
+      amount = s .amount;
+    }
+
+abbrev pub planOf : ℕ → List ℕ → Insn → Plan
+planOf vl x i = planWith i (spreadOf vl x i (i .shape))

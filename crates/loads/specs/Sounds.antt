@@ -1,13 +1,25 @@
 -- What every plan has: the functions over a plan ask this of it, and nothing more.
 use Prim.Native.Nat.{_≤_, _<_}
+use mathlib.Core.Path.{_≡_}
 use Rattle.ground.specs.Sizes.{bytesOf}
+use Rattle.words.proofs.Ranges.{Governed}
+use Rattle.loads.specs.Insns.{Governing, None}
+use Rattle.loads.specs.declared.Rule.{Rule}
+use Rattle.loads.specs.declared.Rule.the-variants.{Always, LaneBit, ElementBit}
 use Rattle.loads.specs.declared.Plan.{Plan}
+
+-- where the rule asks bits, one of the first eight predicates governs; where it asks none, none does
+abbrev pub GovernedIn : Rule → Governing → Type 0
+GovernedIn Always g = g ≡ None
+GovernedIn LaneBit g = Governed g
+GovernedIn ElementBit g = Governed g
 
 pub record Sound (p : Plan) : Type 0 where
   pub some : 0 < p .elements
   pub few : p .elements ≤ 256
   pub filled : p .filled ≤ 256
   pub narrower : bytesOf (p .size) ≤ bytesOf (p .lane)
-  pub pg : p .pg < 8
+  pub governed : GovernedIn (p .rule) (p .governing)
+  pub consulted : p .consulted ≤ 256
   pub base : p .base < 32
   pub target : p .target < 32

@@ -5,17 +5,13 @@ use mathlib.Core.Bool.{Bool, false, not, _&&_}
 use mathlib.Core.List.{List, [], _∷_}
 use lib.Dec.{ltb, eqb}
 use Rattle.ground.specs.Choices.{if_then_else_, Row, _⇒_, firstOf}
-use Rattle.ground.specs.Lists.{anyBelow}
 use Rattle.words.specs.Families.{readOf}
-use Rattle.words.specs.declared.Insn.{Insn}
-use Rattle.words.specs.declared.Insn.the-variants.{Replicate, ByElement, Contiguous, Block}
-use Rattle.words.specs.declared.Decoded.{Decoded}
-use Rattle.words.specs.declared.Decoded.the-variants.{Outside, Undefined, Is}
+use Rattle.loads.specs.Insns.{Insn, Shape, Replicate, ByElement, Contiguous, Block, Decoded, Outside, Undefined, Is}
 use Rattle.loads.specs.Benches.{Lent, Bench, accepted}
 use Rattle.loads.specs.Answers.{Report, reportOf, refusal}
 use Rattle.loads.specs.Terms.{scalar}
 use Rattle.loads.specs.Plans.{planOf}
-use Rattle.loads.specs.Lanes.{governing, wanted}
+use Rattle.loads.specs.Lanes.{governing, checksStack}
 use Rattle.loads.specs.Outcomes.{Outcome, answersOf, ended, outcomeOf}
 use Rattle.loads.specs.declared.Settings.{Settings}
 use Rattle.loads.specs.declared.StepResult.{StepResult}
@@ -25,33 +21,29 @@ use Rattle.loads.specs.declared.Planned.the-variants as P
 use Rattle.loads.specs.declared.Answer.the-variants as A
 
 -- LD1RO
-abbrev pub isWide : Insn → Bool
-isWide (Replicate q size back rn rt) = false
-isWide (ByElement dtype imm6 pg rn zt) = false
-isWide (Contiguous dtype offset pg rn zt) = false
-isWide (Block wide msz offset pg rn zt) = wide
+abbrev pub isWide : Shape → Bool
+isWide (Replicate q back) = false
+isWide (ByElement imm6) = false
+isWide (Contiguous offset) = false
+isWide (Block wide offset) = wide
 
 -- "LD1R with SIMD off; any other with SVE off"
-abbrev pub switchedOn : Settings → Insn → Bool
-switchedOn s (Replicate q size back rn rt) = s .simd
-switchedOn s (ByElement dtype imm6 pg rn zt) = s .sve
-switchedOn s (Contiguous dtype offset pg rn zt) = s .sve
-switchedOn s (Block wide msz offset pg rn zt) = s .sve
+abbrev pub switchedOn : Settings → Shape → Bool
+switchedOn s (Replicate q back) = s .simd
+switchedOn s (ByElement imm6) = s .sve
+switchedOn s (Contiguous offset) = s .sve
+switchedOn s (Block wide offset) = s .sve
 
--- the SP check is made: "LD1R always checks. The others check only when one of the lanes they consult is active"
-unfoldable pub checksStack : Plan → List ℕ → Bool
-checksStack p pred = anyBelow (wanted p pred) (p .elements)
-
--- .. and fails: "SP as base must be a multiple of 16"
+-- the SP check is made and fails: "SP as base must be a multiple of 16"
 unfoldable pub stackFails : List ℕ → Plan → List ℕ → Bool
 stackFails x p pred = eqb (p .base) 31 && checksStack p pred && not (eqb (scalar x 31 % 16) 0)
 
 -- "3 from the word and F64MM, 4, 3 for short VL": each with its answer
 unfoldable pub refusals : Settings → Insn → List (Row Planned)
 refusals s i =
-    (isWide i && not (s .f64mm) ⇒ P.Stop A.Undefined)
-    ∷ (not (switchedOn s i) ⇒ P.Stop A.SwitchedOff)
-    ∷ (isWide i && ltb (s .vl) 256 ⇒ P.Stop A.Undefined)
+    (isWide (i .shape) && not (s .f64mm) ⇒ P.Stop A.Undefined)
+    ∷ (not (switchedOn s (i .shape)) ⇒ P.Stop A.SwitchedOff)
+    ∷ (isWide (i .shape) && ltb (s .vl) 256 ⇒ P.Stop A.Undefined)
     ∷ []
 
 unfoldable pub plannedLoad : Settings → List ℕ → Insn → Planned

@@ -1,9 +1,11 @@
 // What a step is told in: the settings, what a load is about to do, and how a step ends.
 use ground::Size;
 use memory::Address;
+use memory::Fault;
+use words::Governing;
 ghost use mathlib.Core.Path.{_≡_};
 ghost use Rattle.loads.specs.Benches.{lengthAllowed};
-ghost use Rattle.loads.specs.Answers.{numberOf, elementOf, addressOf};
+ghost use Rattle.loads.specs.Answers.{faultNumber, numberOf, elementOf, addressOf};
 
 // The vector length in bits, and the switches.
 pub struct Settings {
@@ -20,7 +22,7 @@ pub fn allowed(vl: u64) -> bool
     (vl % 128 == 0) & (128 <= vl) & (vl <= 2048)
 }
 
-// How a step ended. A fault carries the first bad byte's address and its element's number.
+// How a step ended. A fault carries why, the first bad byte's address and its element's number.
 pub enum Answer {
     Ran,
     SetUp,
@@ -28,14 +30,23 @@ pub enum Answer {
     Undefined,
     SwitchedOff,
     Stack,
-    NoMemory(Address, u64),
-    Denied(Address, u64),
+    Faulted(Fault, Address, u64),
 }
 
 // A step's result: the count of element reads beside the answer.
 pub struct StepResult {
     pub count: u64,
     pub answer: Answer,
+}
+
+// The scope of work's number for a fault.
+fn fault_number(fault: Fault) -> u64
+    ensures { λ r. ⌜ r ≡ faultNumber fault ⌝ }
+{
+    match fault {
+        Fault::Nowhere => 6,
+        Fault::Denied => 7,
+    }
 }
 
 impl Answer {
@@ -50,8 +61,7 @@ impl Answer {
             Answer::Undefined => 3,
             Answer::SwitchedOff => 4,
             Answer::Stack => 5,
-            Answer::NoMemory(_, _) => 6,
-            Answer::Denied(_, _) => 7,
+            Answer::Faulted(fault, _, _) => fault_number(fault),
         }
     }
 
@@ -66,8 +76,7 @@ impl Answer {
             Answer::Undefined => 0,
             Answer::SwitchedOff => 0,
             Answer::Stack => 0,
-            Answer::NoMemory(_, e) => e,
-            Answer::Denied(_, e) => e,
+            Answer::Faulted(_, _, e) => e,
         }
     }
 
@@ -82,13 +91,13 @@ impl Answer {
             Answer::Undefined => Address(0),
             Answer::SwitchedOff => Address(0),
             Answer::Stack => Address(0),
-            Answer::NoMemory(a, _) => a,
-            Answer::Denied(a, _) => a,
+            Answer::Faulted(_, a, _) => a,
         }
     }
 }
 
-// Which predicate bits decide whether a lane takes its element: none; the lane's own; the element's.
+// Which bits of the governing predicate decide whether a lane takes its element: none; the lane's own; the element's. And which elements are
+// asked for: every one; the one, where some lane is active; those whose bit is set.
 pub enum Rule {
     Always,
     LaneBit,
@@ -96,7 +105,8 @@ pub enum Rule {
 }
 
 // What a load is about to do, with no memory in sight. Element e is read at start + e × size. Lane l of the first `filled`
-// takes element l mod `elements`, where the rule lets it; every other lane becomes zero.
+// takes element l mod `elements`, where the rule lets it; every other lane becomes zero. The stack rule consults the first `consulted` lanes,
+// and where the rule is `Always` it checks whatever they are.
 pub struct Plan {
     pub start: Address,
     pub size: Size,
@@ -105,7 +115,8 @@ pub struct Plan {
     pub elements: u64,
     pub filled: u64,
     pub rule: Rule,
-    pub pg: u32,
+    pub consulted: u64,
+    pub governing: Governing,
     pub base: u32,
     pub target: u32,
     pub back: bool,

@@ -5,12 +5,14 @@ use mathlib.Core.Logic.{_↔_, _⊎_, inl, inr, ⊎-elim}
 use Prim.Native.Nat.{ℕ, _+_, _-_, _≤_, _<_}
 use native.Mathlib.Omega.{arith}
 use lib.ListN.{getD}
+use Rattle.memory.specs.declared.Fault.{Fault}
+use Rattle.memory.specs.declared.Fault.the-variants.{Nowhere, Denied}
 use Rattle.memory.specs.declared.Cell.{Cell}
 use Rattle.memory.specs.declared.Cell.the-variants as C
 use Rattle.memory.specs.Areas.{Area, Areas}
 use Rattle.memory.specs.Bytes.{lookOf}
 use Rattle.memory.specs.Said.{Holds, Right, Taken, Of, in-flash, in-ram, SamePlaces, Both, flashes, rams}
-use Rattle.memory.specs.Troubles.{Bad, nowhere, denied, badCell, troubleAt}
+use Rattle.memory.specs.Troubles.{troubleAt}
 use Rattle.memory.proofs.Looks.{nowhere-exactly, denied-exactly, byte-exactly, right-byte, no-right-denied}
 
 -- the same bounds hold the same addresses
@@ -26,7 +28,7 @@ module _ (m n : Areas) (taken : Taken m) (taken′ : Taken n) (same : SamePlaces
   Alike : Type 0
   Alike =
       ((r r′ : Area) × Both m n r r′ × Holds r a × (lookOf m a ≡ C.Byte (getD (r .bytes) (a - r .start) 0)) × (lookOf n a ≡ C.Byte (getD (r′ .bytes) (a - r′ .start) 0)))
-      ⊎ ((t : Bad) × (lookOf m a ≡ badCell t) × (lookOf n a ≡ badCell t))
+      ⊎ ((f : Fault) × (lookOf m a ≡ C.Bad f) × (lookOf n a ≡ C.Bad f))
 
   alike : Alike
   unfolding Alike
@@ -37,13 +39,13 @@ module _ (m n : Areas) (taken : Taken m) (taken′ : Taken n) (same : SamePlaces
           let e = byte-exactly m taken a v .0 h in
           let f = fellow (e .1) (e .2) in
           inl (e .0, f .0, f .2, e .2, right-byte m taken a (e .1) (e .2) (e .3), right-byte n taken′ a (f .1) (f .3) (right _ _ (f .2) (e .2) .0 (e .3)))
-      go C.Denied h =
+      go (C.Bad Denied) h =
           let e = denied-exactly m taken a .0 h in
           let f = fellow (e .1) (e .2) in
-          inr (denied, h, no-right-denied n taken′ a (f .1) (f .3) (λ q. e .3 (right _ _ (f .2) (e .2) .1 q)))
-      go C.Nowhere h =
+          inr (Denied, h, no-right-denied n taken′ a (f .1) (f .3) (λ q. e .3 (right _ _ (f .2) (e .2) .1 q)))
+      go (C.Bad Nowhere) h =
           let k = nowhere-exactly m a .0 h in
-          inr (nowhere, h, nowhere-exactly n a .1 (λ q. k .0 (held (sym (same .flash-start)) (sym (same .flash-length)) q), λ q. k .1 (held (sym (same .ram-start)) (sym (same .ram-length)) q)))
+          inr (Nowhere, h, nowhere-exactly n a .1 (λ q. k .0 (held (sym (same .flash-start)) (sym (same .flash-length)) q), λ q. k .1 (held (sym (same .ram-start)) (sym (same .ram-length)) q)))
 
   pub same-trouble : (x : ℕ) → troubleAt (lookOf m a) x ≡ troubleAt (lookOf n a) x
   unfolding Alike

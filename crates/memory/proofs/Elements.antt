@@ -11,11 +11,12 @@ use Rattle.ground.proofs.Laws.{true-or-false}
 use Rattle.memory.specs.Addresses.{plusOf}
 use Rattle.memory.specs.Elements.{readingOf, under, onCell}
 use Rattle.memory.specs.declared.Address.{Address}
+use Rattle.memory.specs.declared.Fault.{Fault}
 use Rattle.memory.specs.declared.Cell.{Cell}
 use Rattle.memory.specs.declared.Cell.the-variants as C
 use Rattle.memory.specs.declared.Reading.{Reading}
-use Rattle.memory.specs.declared.Reading.the-variants.{Value, Nowhere, Denied}
-use Rattle.memory.specs.Troubles.{ByteAt, byteOf, Bad, nowhere, denied, badCell, badReading, Trouble, none, bad, troubleAt, troubleOf}
+use Rattle.memory.specs.declared.Reading.the-variants.{Value, Bad}
+use Rattle.memory.specs.Troubles.{ByteAt, byteOf, Trouble, none, bad, troubleAt, troubleOf}
 
 -- ---- the walk with a count: the bytes i, i + 1 and on of the element at a, n of them
 walk : (ℕ → Cell) → ℕ → ℕ → ℕ → Reading
@@ -35,18 +36,11 @@ from-start look a n l = let e : plusOf a 0 ≡ a = omega arith in rw e at (walke
 -- ---- one cell
 under-value : (b : ℕ) (r : Reading) (v : ℕ) → under b r ≡ Value v → (w : ℕ) × (r ≡ Value w) × (v ≡ b + 256 * w)
 under-value b (Value w) v e = (w, refl, cc)
-under-value b (Nowhere x) v e = let z : _≡_ {A = ℕ} 0 1 = cc in absurd (omega arith)
-under-value b (Denied x) v e = let z : _≡_ {A = ℕ} 0 1 = cc in absurd (omega arith)
+under-value b (Bad f x) v e = let z : _≡_ {A = ℕ} 0 1 = cc in absurd (omega arith)
 
-under-bad : (b : ℕ) (r : Reading) (t : Bad) (x : Address) → under b r ≡ badReading t x → r ≡ badReading t x
-under-bad b (Value w) nowhere x e = let z : _≡_ {A = ℕ} 0 1 = cc in absurd (omega arith)
-under-bad b (Value w) denied x e = let z : _≡_ {A = ℕ} 0 1 = cc in absurd (omega arith)
-under-bad b (Nowhere y) t x e = e
-under-bad b (Denied y) t x e = e
-
-bad-under : (b : ℕ) (t : Bad) (x : Address) → under b (badReading t x) ≡ badReading t x
-bad-under b nowhere x = refl
-bad-under b denied x = refl
+under-bad : (b : ℕ) (r : Reading) (f : Fault) (x : Address) → under b r ≡ Bad f x → r ≡ Bad f x
+under-bad b (Value w) f x e = let z : _≡_ {A = ℕ} 0 1 = cc in absurd (omega arith)
+under-bad b (Bad g y) f x e = e
 
 -- the first trouble of two
 abbrev after : Trouble → Trouble → Trouble
@@ -55,10 +49,8 @@ after (bad k x) t = bad k x
 
 trouble-on : (c : Cell) (a : ℕ) (r : Reading) → troubleOf (onCell c a r) ≡ after (troubleAt c a) (troubleOf r)
 trouble-on (C.Byte b) a (Value v) = refl
-trouble-on (C.Byte b) a (Nowhere x) = refl
-trouble-on (C.Byte b) a (Denied x) = refl
-trouble-on C.Nowhere a r = refl
-trouble-on C.Denied a r = refl
+trouble-on (C.Byte b) a (Bad f x) = refl
+trouble-on (C.Bad f) a r = refl
 
 first-or-later : (i k : ℕ) → i ≤ k → (i ≡ k) ⊎ (i + 1 ≤ k)
 first-or-later i k l =
@@ -71,9 +63,9 @@ module _ (look : ℕ → Cell) (a : ℕ) where
   AllFound i n = (k : ℕ) → i ≤ k → k < i + n → ByteAt look (plusOf a k)
 
   -- the first bad byte of these is k
-  abbrev FirstBad : Bad → Address → ℕ → ℕ → Type 0
-  FirstBad t x i n =
-      (k : ℕ) × (i ≤ k) × (k < i + n) × (look (plusOf a k) ≡ badCell t) × (x .0 ≡ plusOf a k) × ((j : ℕ) → i ≤ j → j < k → ByteAt look (plusOf a j))
+  abbrev FirstBad : Fault → Address → ℕ → ℕ → Type 0
+  FirstBad f x i n =
+      (k : ℕ) × (i ≤ k) × (k < i + n) × (look (plusOf a k) ≡ C.Bad f) × (x .0 ≡ plusOf a k) × ((j : ℕ) → i ≤ j → j < k → ByteAt look (plusOf a j))
 
   abbrev digit : ℕ → ℕ
   digit k = byteOf (look (plusOf a k))
@@ -89,8 +81,7 @@ module _ (look : ℕ → Cell) (a : ℕ) where
       let u = under-value b (walk look a (i + 1) n) v e in
       let r = ih (u .0) (u .1) in
       (λ k l m. found-here i k (i + suc n) (b, p) (λ j l m. r .0 j l (omega arith)) l m, u .2 ∙ rw (p, r .1))
-  value-step i n v ih C.Nowhere p e = let z : _≡_ {A = ℕ} 0 1 = cc in absurd (omega arith)
-  value-step i n v ih C.Denied p e = let z : _≡_ {A = ℕ} 0 1 = cc in absurd (omega arith)
+  value-step i n v ih (C.Bad f) p e = let z : _≡_ {A = ℕ} 0 1 = cc in absurd (omega arith)
 
   value-of : (i n v : ℕ) → walk look a i n ≡ Value v → AllFound i n × (v ≡ little digit i n)
   unfolding walk
@@ -105,43 +96,35 @@ module _ (look : ℕ → Cell) (a : ℕ) where
       let ih = value-from (i + 1) n (λ k l m. h k (omega arith) (omega arith)) in
       rw (b .1, ih)
 
-  bad-step : (i n : ℕ) (t : Bad) (x : Address) → (walk look a (i + 1) n ≡ badReading t x → FirstBad t x (i + 1) n)
-      → (c : Cell) → look (plusOf a i) ≡ c → onCell c (plusOf a i) (walk look a (i + 1) n) ≡ badReading t x
-      → FirstBad t x i (suc n)
-  bad-step i n t x ih (C.Byte b) p e =
-      let r = ih (under-bad b (walk look a (i + 1) n) t x e) in
+  bad-step : (i n : ℕ) (f : Fault) (x : Address) → (walk look a (i + 1) n ≡ Bad f x → FirstBad f x (i + 1) n)
+      → (c : Cell) → look (plusOf a i) ≡ c → onCell c (plusOf a i) (walk look a (i + 1) n) ≡ Bad f x
+      → FirstBad f x i (suc n)
+  bad-step i n f x ih (C.Byte b) p e =
+      let r = ih (under-bad b (walk look a (i + 1) n) f x e) in
       let l = r .1 in
       let m = r .2 in
       (r .0, omega arith, omega arith, r .3, r .4, λ j l m. found-here i j (r .0) (b, p) (r .5) l m)
-  bad-step i n nowhere x ih C.Nowhere p e = (i, omega arith, omega arith, p, cc, λ j l m. absurd (omega arith))
-  bad-step i n denied x ih C.Nowhere p e = let z : _≡_ {A = ℕ} 0 1 = cc in absurd (omega arith)
-  bad-step i n nowhere x ih C.Denied p e = let z : _≡_ {A = ℕ} 0 1 = cc in absurd (omega arith)
-  bad-step i n denied x ih C.Denied p e = (i, omega arith, omega arith, p, cc, λ j l m. absurd (omega arith))
+  bad-step i n f x ih (C.Bad g) p e = (i, omega arith, omega arith, cc, cc, λ j l m. absurd (omega arith))
 
-  bad-of : (i n : ℕ) (t : Bad) (x : Address) → walk look a i n ≡ badReading t x → FirstBad t x i n
+  bad-of : (i n : ℕ) (f : Fault) (x : Address) → walk look a i n ≡ Bad f x → FirstBad f x i n
   unfolding walk
-  bad-of i zero nowhere x e = let z : _≡_ {A = ℕ} 0 1 = cc in absurd (omega arith)
-  bad-of i zero denied x e = let z : _≡_ {A = ℕ} 0 1 = cc in absurd (omega arith)
-  bad-of i (suc n) t x e = bad-step i n t x (bad-of (i + 1) n t x) (look (plusOf a i)) refl e
+  bad-of i zero f x e = let z : _≡_ {A = ℕ} 0 1 = cc in absurd (omega arith)
+  bad-of i (suc n) f x e = bad-step i n f x (bad-of (i + 1) n f x) (look (plusOf a i)) refl e
 
-  bad-from : (i n : ℕ) (t : Bad) (x : Address) → FirstBad t x i n → walk look a i n ≡ badReading t x
+  bad-from : (i n : ℕ) (f : Fault) (x : Address) → FirstBad f x i n → walk look a i n ≡ Bad f x
   unfolding walk
-  bad-from i zero t x h = let l = h .1 in let m = h .2 in absurd (omega arith)
-  bad-from i (suc n) t x h =
+  bad-from i zero f x h = let l = h .1 in let m = h .2 in absurd (omega arith)
+  bad-from i (suc n) f x h =
       ⊎-elim
       (λ e.
-      let p : look (plusOf a i) ≡ badCell t = ap (λ (j : ℕ). look (plusOf a j)) e ∙ h .3 in
-      rw p (bad-here t (walk look a (i + 1) n) (plusOf a i) x (h .4 ∙ ap (plusOf a) (sym e))))
+      let p : look (plusOf a i) ≡ C.Bad f = ap (λ (j : ℕ). look (plusOf a j)) e ∙ h .3 in
+      rw p (λ j. Bad f (record { 0 = (ap (plusOf a) e ∙ sym (h .4)) j })))
       (λ l.
       let b = h .5 i (omega arith) (omega arith) in
       let m = h .2 in
-      let ih = bad-from (i + 1) n t x (h .0, l, omega arith, h .3, h .4, λ j p q. h .5 j (omega arith) q) in
-      rw (b .1, ih) (bad-under (b .0) t x))
+      let ih = bad-from (i + 1) n f x (h .0, l, omega arith, h .3, h .4, λ j p q. h .5 j (omega arith) q) in
+      rw (b .1, ih))
       (first-or-later i (h .0) (h .1))
-    where
-      bad-here : (t : Bad) (r : Reading) (k : ℕ) (x : Address) → x .0 ≡ k → onCell (badCell t) k r ≡ badReading t x
-      bad-here nowhere r k x e = λ i. Nowhere (record { 0 = sym e i })
-      bad-here denied r k x e = λ i. Denied (record { 0 = sym e i })
 
 -- ---- the element's laws
 module _ (look : ℕ → Cell) (a n : ℕ) (l : a < 2 ^ 64) where
@@ -152,11 +135,11 @@ module _ (look : ℕ → Cell) (a n : ℕ) (l : a < 2 ^ 64) where
     λ h. from-start look a n l ∙ value-from look a 0 n (λ k p q. h .0 k (omega arith)) ∙ ap Value (sym (h .1)),
   )
 
-  pub bad-exactly : (t : Bad) (x : Address) → (readingOf look a n ≡ badReading t x)
-      ↔ ((k : ℕ) × (k < n) × (look (plusOf a k) ≡ badCell t) × (x .0 ≡ plusOf a k) × ((j : ℕ) → j < k → ByteAt look (plusOf a j)))
-  bad-exactly t x = (
-    λ e. let r = bad-of look a 0 n t x (sym (from-start look a n l) ∙ e) in let m = r .2 in (r .0, omega arith, r .3, r .4, λ j q. r .5 j (omega arith) q),
-    λ h. let m = h .1 in from-start look a n l ∙ bad-from look a 0 n t x (h .0, omega arith, omega arith, h .2, h .3, λ j p q. h .4 j q),
+  pub bad-exactly : (f : Fault) (x : Address) → (readingOf look a n ≡ Bad f x)
+      ↔ ((k : ℕ) × (k < n) × (look (plusOf a k) ≡ C.Bad f) × (x .0 ≡ plusOf a k) × ((j : ℕ) → j < k → ByteAt look (plusOf a j)))
+  bad-exactly f x = (
+    λ e. let r = bad-of look a 0 n f x (sym (from-start look a n l) ∙ e) in let m = r .2 in (r .0, omega arith, r .3, r .4, λ j q. r .5 j (omega arith) q),
+    λ h. let m = h .1 in from-start look a n l ∙ bad-from look a 0 n f x (h .0, omega arith, omega arith, h .2, h .3, λ j p q. h .4 j q),
   )
 
 -- two looks that agree on the element's bytes read the same

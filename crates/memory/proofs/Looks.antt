@@ -9,8 +9,9 @@ use lib.Dec.{eqb}
 use lib.ListN.{length, getD}
 use borrow.Author.Tests.{eq-eqb, ne-eqb, eqb-true, eqb-false}
 use Rattle.ground.proofs.Laws.{true-or-false}
+use Rattle.memory.specs.declared.Fault.the-variants.{Nowhere, Denied}
 use Rattle.memory.specs.declared.Cell.{Cell}
-use Rattle.memory.specs.declared.Cell.the-variants.{Byte, Nowhere, Denied}
+use Rattle.memory.specs.declared.Cell.the-variants.{Byte, Bad}
 use Rattle.memory.specs.Areas.{Area, Areas, holds, placeOf}
 use Rattle.memory.specs.Bytes.{judged, lookOf}
 use Rattle.memory.specs.Said.{Holds, Right, Taken, Of, in-flash, in-ram}
@@ -28,7 +29,7 @@ judged-right : (r : Area) (a : ℕ) → Right r a → judgedAt r a ≡ Byte (get
 unfolding judged
 judged-right r a h = rw (eq-eqb _ _ h)
 
-judged-denied : (r : Area) (a : ℕ) → (Right r a → ⊥) → judgedAt r a ≡ Denied
+judged-denied : (r : Area) (a : ℕ) → (Right r a → ⊥) → judgedAt r a ≡ Bad Denied
 unfolding judged
 judged-denied r a h = rw (ne-eqb _ _ h)
 
@@ -47,11 +48,11 @@ module _ (m : Areas) (a : ℕ) where
   unfolding lookOf placeOf
   from-ram e h = rw (e, holds-exactly (m .ram) a .1 h)
 
-  from-none : holdsAt (m .flash) a ≡ false → holdsAt (m .ram) a ≡ false → lookOf m a ≡ Nowhere
+  from-none : holdsAt (m .flash) a ≡ false → holdsAt (m .ram) a ≡ false → lookOf m a ≡ Bad Nowhere
   unfolding lookOf placeOf
   from-none e h = rw (e, h)
 
-judged-somewhere : (r : Area) (a : ℕ) → judgedAt r a ≡ Nowhere → ⊥
+judged-somewhere : (r : Area) (a : ℕ) → judgedAt r a ≡ Bad Nowhere → ⊥
 judged-somewhere r a e =
     ⊎-elim
     (λ h. let p = judged-right r a h in let z : _≡_ {A = ℕ} 0 1 = cc in omega arith)
@@ -64,7 +65,7 @@ module _ (m : Areas) (a : ℕ) where
   Found : Type 0
   Found =
       ((r : Area) × Of m r × Holds r a × (lookOf m a ≡ judgedAt r a))
-      ⊎ ((Holds (m .flash) a → ⊥) × (Holds (m .ram) a → ⊥) × (lookOf m a ≡ Nowhere))
+      ⊎ ((Holds (m .flash) a → ⊥) × (Holds (m .ram) a → ⊥) × (lookOf m a ≡ Bad Nowhere))
 
   found : Found
   unfolding Found
@@ -81,7 +82,7 @@ module _ (m : Areas) (a : ℕ) where
   held-none h r in-flash k = h .0 k
   held-none h r in-ram k = h .1 k
 
-  pub nowhere-exactly : (lookOf m a ≡ Nowhere) ↔ ((Holds (m .flash) a → ⊥) × (Holds (m .ram) a → ⊥))
+  pub nowhere-exactly : (lookOf m a ≡ Bad Nowhere) ↔ ((Holds (m .flash) a → ⊥) × (Holds (m .ram) a → ⊥))
   unfolding Found
   nowhere-exactly = (
     λ e. ⊎-elim (λ w. absurd (judged-somewhere (w .0) a (sym (w .3) ∙ e))) (λ w. (w .0, w .1)) found,
@@ -100,10 +101,10 @@ module _ (m : Areas) (t : Taken m) (a : ℕ) where
   pub right-byte : {r : Area} → Of m r → Holds r a → Right r a → lookOf m a ≡ Byte (getD (r .bytes) (a - r .start) 0)
   right-byte {r} o h k = looked o h ∙ judged-right r a k
 
-  pub no-right-denied : {r : Area} → Of m r → Holds r a → (Right r a → ⊥) → lookOf m a ≡ Denied
+  pub no-right-denied : {r : Area} → Of m r → Holds r a → (Right r a → ⊥) → lookOf m a ≡ Bad Denied
   no-right-denied {r} o h k = looked o h ∙ judged-denied r a k
 
-  pub denied-exactly : (lookOf m a ≡ Denied) ↔ ((r : Area) × Of m r × Holds r a × (Right r a → ⊥))
+  pub denied-exactly : (lookOf m a ≡ Bad Denied) ↔ ((r : Area) × Of m r × Holds r a × (Right r a → ⊥))
   unfolding Found
   denied-exactly = (
     λ e. ⊎-elim

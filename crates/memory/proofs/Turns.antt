@@ -6,33 +6,26 @@ use native.Mathlib.Numerals.{sub-one}
 use native.Mathlib.Omega.{arith}
 use lib.Pow.{pow-add, pow-mono, shl-exact}
 use lib.Arith.{digits-lt}
+use Rattle.memory.specs.declared.Fault.{Fault}
 use Rattle.memory.specs.declared.Cell.{Cell}
 use Rattle.memory.specs.declared.Cell.the-variants as C
 use Rattle.memory.specs.declared.Reading.{Reading}
-use Rattle.memory.specs.declared.Reading.the-variants.{Value, Nowhere, Denied}
+use Rattle.memory.specs.declared.Reading.the-variants.{Value, Bad}
 use Rattle.memory.specs.Addresses.{plusOf}
 use Rattle.memory.specs.Elements.{readingOf, under, onCell}
-use Rattle.memory.specs.Troubles.{Bad, nowhere, denied, badCell, badReading}
 
 -- v with what was read above it, at the scale s
 abbrev pub over : ℕ → ℕ → Reading → Reading
 over v s (Value w) = Value (v + s * w)
-over v s (Nowhere x) = Nowhere x
-over v s (Denied x) = Denied x
+over v s (Bad f x) = Bad f x
 
 over-none : (r : Reading) → r ≡ over 0 1 r
 over-none (Value w) = ap Value (sym (zero-add (1 * w) ∙ one-mul w))
-over-none (Nowhere x) = refl
-over-none (Denied x) = refl
+over-none (Bad f x) = refl
 
 over-under : (v s b : ℕ) (r : Reading) → over v s (under b r) ≡ over (v + b * s) (s * 256) r
 over-under v s b (Value w) = ap Value (simp (mul-add, mul-assoc, add-assoc, mul-comm b s))
-over-under v s b (Nowhere x) = refl
-over-under v s b (Denied x) = refl
-
-over-bad : (v s a : ℕ) (r : Reading) (t : Bad) → over v s (onCell (badCell t) a r) ≡ badReading t (record { 0 = a })
-over-bad v s a r nowhere = refl
-over-bad v s a r denied = refl
+over-under v s b (Bad f x) = refl
 
 -- i of n bytes from a₀ on are read, v is their value, and the next lies at a
 pub record SoFar (look : ℕ → Cell) (a₀ n a v i : ℕ) : Type 0 where
@@ -68,8 +61,8 @@ module _ {look : ℕ → Cell} {a₀ n a v i : ℕ} (s : SoFar look a₀ n a v i
       e : n - i - 1 ≡ n - (i + 1)
       e = omega arith
 
-  pub bad-byte : (t : Bad) → look a ≡ badCell t → badReading t (record { 0 = a }) ≡ readingOf look a₀ n
-  bad-byte t e = sym (s .reads ∙ rw (next, e) (over-bad v (2 ^ (8 * i)) a (readingOf look (plusOf a 1) (n - (i + 1))) t))
+  pub bad-byte : (f : Fault) → look a ≡ C.Bad f → Bad f (record { 0 = a }) ≡ readingOf look a₀ n
+  bad-byte f e = sym (s .reads ∙ rw (next, e))
 
   module _ (b : ℕ) (byte : b < 256) where
     shifted : (b * 2 ^ (8 * i)) % 2 ^ 64 ≡ b * 2 ^ (8 * i)

@@ -1,4 +1,4 @@
--- What a load finds at an address: a byte, or nowhere, or denied.
+-- What a load finds at an address: a byte, or why there is none to read.
 use Prim.Native.Nat.{ℕ, _/_, _%_}
 use mathlib.Core.Bool.{Bool}
 use mathlib.Core.List.{List}
@@ -8,8 +8,9 @@ use Rattle.ground.specs.Choices.{if_then_else_}
 use Rattle.memory.specs.Areas.{Areas, placeIn}
 use Rattle.memory.specs.declared.Place.{Place}
 use Rattle.memory.specs.declared.Place.the-variants as P
+use Rattle.memory.specs.declared.Fault.the-variants.{Nowhere, Denied}
 use Rattle.memory.specs.declared.Cell.{Cell}
-use Rattle.memory.specs.declared.Cell.the-variants.{Byte, Nowhere, Denied}
+use Rattle.memory.specs.declared.Cell.the-variants.{Byte, Bad}
 
 -- the rights byte of the page that an area's byte k lies in; bit 0 is the read right, "other bits are not looked at"
 abbrev pub readRight : List ℕ → ℕ → Bool
@@ -17,12 +18,12 @@ readRight rights k = eqb (getD rights (k / 4096) 0 % 2) 1
 
 -- what a load may do at byte k of an area
 unfoldable pub judged : List ℕ → List ℕ → ℕ → Cell
-judged bytes rights k = if readRight rights k then Byte (getD bytes k 0) else Denied
+judged bytes rights k = if readRight rights k then Byte (getD bytes k 0) else Bad Denied
 
 abbrev pub cellAt : Areas → Place → Cell
 cellAt m (P.Flash k) = judged (m .flash .bytes) (m .flash .rights) k
 cellAt m (P.Ram k) = judged (m .ram .bytes) (m .ram .rights) k
-cellAt m P.Nowhere = Nowhere
+cellAt m P.Nowhere = Bad Nowhere
 
 unfoldable pub lookOf : Areas → ℕ → Cell
 lookOf m a = cellAt m (placeIn m a)

@@ -4,18 +4,16 @@ use Rattle.memory.specs.Addresses.{plusOf}
 use Rattle.memory.specs.declared.Cell.{Cell}
 use Rattle.memory.specs.declared.Cell.the-variants as C
 use Rattle.memory.specs.declared.Reading.{Reading}
-use Rattle.memory.specs.declared.Reading.the-variants.{Value, Nowhere, Denied}
+use Rattle.memory.specs.declared.Reading.the-variants.{Value, Bad}
 
 -- a byte below what the bytes above it read as
 abbrev pub under : ℕ → Reading → Reading
 under b (Value v) = Value (b + 256 * v)
-under b (Nowhere x) = Nowhere x
-under b (Denied x) = Denied x
+under b (Bad f x) = Bad f x
 
 abbrev pub onCell : Cell → ℕ → Reading → Reading
 onCell (C.Byte b) a rest = under b rest
-onCell C.Nowhere a rest = Nowhere (record { 0 = a })
-onCell C.Denied a rest = Denied (record { 0 = a })
+onCell (C.Bad f) a rest = Bad f (record { 0 = a })
 
 -- n bytes upward from a: their value, lowest byte first, or the first bad byte
 unfoldable pub readingOf : (ℕ → Cell) → ℕ → ℕ → Reading

@@ -48,18 +48,22 @@ pub enum Place {
     Nowhere,
 }
 
-// What a load finds at an address.
-pub enum Cell {
-    Byte(u8),
+// Why a byte cannot be read: neither area holds it, or its page has no read right.
+pub enum Fault {
     Nowhere,
     Denied,
 }
 
-// What reading an element finds: its value, lowest byte first, or the first bad byte.
+// What a load finds at an address.
+pub enum Cell {
+    Byte(u8),
+    Bad(Fault),
+}
+
+// What reading an element finds: its value, lowest byte first, or the first bad byte: why, and its address.
 pub enum Reading {
     Value(u64),
-    Nowhere(Address),
-    Denied(Address),
+    Bad(Fault, Address),
 }
 
 // Whether n bytes from start on end at 2^64 or below. No slice is as long as the address space.
@@ -164,7 +168,7 @@ fn judge(bytes: &[u8], rights: &[u8], k: usize) -> Cell
             return Cell::Byte(bytes[k]);
         }
     }
-    Cell::Denied
+    Cell::Bad(Fault::Denied)
 }
 
 // What a load finds at an address.
@@ -181,7 +185,7 @@ pub fn byte(
     match locate(map, flash.len(), ram.len(), a) {
         Place::Flash(k) => judge(flash, flash_rights, k),
         Place::Ram(k) => judge(ram, ram_rights, k),
-        Place::Nowhere => Cell::Nowhere,
+        Place::Nowhere => Cell::Bad(Fault::Nowhere),
     }
 }
 
@@ -203,8 +207,7 @@ fn bytes_from(
     let mut i: u64 = 0;
     while i < n {
         match byte(map, flash, flash_rights, ram, ram_rights, here) {
-            Cell::Nowhere => return Reading::Nowhere(here),
-            Cell::Denied => return Reading::Denied(here),
+            Cell::Bad(f) => return Reading::Bad(f, here),
             Cell::Byte(b) => {
                 value += (b as u64) << (8 * i);
             }

@@ -6,9 +6,9 @@ use Prim.Native.Nat.{ℕ, _≤_}
 use lib.Dec.{ltb}
 use Rattle.ground.proofs.Laws.{only-one, if-cases}
 use Rattle.words.specs.Families.{readOf}
+use Rattle.words.specs.declared.Insn.{Insn}
 use Rattle.words.specs.declared.Decoded.{Decoded}
 use Rattle.words.specs.declared.Decoded.the-variants.{Outside, Undefined, Is}
-use Rattle.words.specs.declared.Insn.{Insn}
 use Rattle.words.proofs.Ranges.{InsnInRange, InRange, in-range}
 use Rattle.loads.specs.Benches.{lengthAllowed}
 use Rattle.loads.specs.Answers.{numberOf}
@@ -41,14 +41,14 @@ abbrev Holding : (Plan → Type 0) → Planned → Type 0
 Holding P (Stop a) = Unit {0}
 Holding P (Go p) = P p
 
-module _ (s : Settings) (x : List ℕ) (P : Plan → Type 0) (each : (i : Insn) → InsnInRange i → (isWide i && ltb (s .vl) 256) ≡ false → P (planOf (s .vl) x i)) where
+module _ (s : Settings) (x : List ℕ) (P : Plan → Type 0) (each : (i : Insn) → InsnInRange i → (isWide (i .shape) && ltb (s .vl) 256) ≡ false → P (planOf (s .vl) x i)) where
   of-load : (i : Insn) → InsnInRange i → Holding P (plannedLoad s x i)
   unfolding plannedLoad refusals
   of-load i h =
-      if-cases (Holding P) (isWide i && not (s .f64mm)) _ _ (λ _. tt)
+      if-cases (Holding P) (isWide (i .shape) && not (s .f64mm)) _ _ (λ _. tt)
       (λ _.
-      if-cases (Holding P) (not (switchedOn s i)) _ _ (λ _. tt)
-      (λ _. if-cases (Holding P) (isWide i && ltb (s .vl) 256) _ _ (λ _. tt) (λ long. each i h long)))
+      if-cases (Holding P) (not (switchedOn s (i .shape))) _ _ (λ _. tt)
+      (λ _. if-cases (Holding P) (isWide (i .shape) && ltb (s .vl) 256) _ _ (λ _. tt) (λ long. each i h long)))
 
   of-word : (d : Decoded) → InRange d → Holding P (plannedBy s x d)
   of-word Outside h = tt
@@ -61,4 +61,4 @@ module _ (s : Settings) (x : List ℕ) (P : Plan → Type 0) (each : (i : Insn) 
 
 -- a plan, where there is one, is sound
 pub planned-sound : (s : Settings) (x : List ℕ) → 128 ≤ s .vl → s .vl ≤ 2048 → (w : ℕ) (p : Plan) → planned s x w ≡ Go p → Sound p
-planned-sound s x least most = planned-each s x Sound (λ i h _. sound (s .vl) x least most i h)
+planned-sound s x least most = planned-each s x Sound (λ i h _. sound (s .vl) x least most i h (i .shape) (h .shape))

@@ -1,5 +1,5 @@
 -- Every plan of a word is shaped so, at every vector length that is accepted.
-use mathlib.Core.Path.{_≡_, refl}
+use mathlib.Core.Path.{_≡_, refl, ap}
 use mathlib.Core.Bool.{Bool, true, false, _&&_}
 use mathlib.Core.List.{List}
 use Prim.Native.Nat.{ℕ, zero, suc, _*_, _/_, _%_, _≤_, _<_}
@@ -8,14 +8,16 @@ use native.Mathlib.Omega.{arith}
 use borrow.Author.Tests.{ltb-false}
 use lib.Dec.{eqb, ltb, lit≤}
 use Rattle.ground.specs.Choices.{if_then_else_}
-use Rattle.ground.specs.Sizes.{bytesOf, sizeOf}
+use Rattle.ground.specs.Sizes.{bytesOf}
 use Rattle.ground.specs.declared.Size.{Size}
 use Rattle.ground.specs.declared.Size.the-variants.{B8, B16, B32, B64}
-use Rattle.words.specs.Dtypes.{dtypeOf}
+use Rattle.words.specs.declared.Dtype.{Dtype}
 use Rattle.words.specs.declared.Insn.{Insn}
-use Rattle.words.specs.declared.Insn.the-variants.{Replicate, ByElement, Contiguous, Block}
+use Rattle.words.specs.declared.Shape.{Shape}
+use Rattle.words.specs.declared.Shape.the-variants.{Replicate, ByElement, Contiguous, Block}
+use Rattle.words.proofs.Ranges.{ShapeInRange}
 use Rattle.loads.specs.Terms.{blockBytes}
-use Rattle.loads.specs.Plans.{lanesIn, planOf}
+use Rattle.loads.specs.Plans.{lanesIn, spreadOf, planWith}
 use Rattle.loads.specs.Steps.{isWide, planned}
 use Rattle.loads.specs.declared.Plan.{Plan}
 use Rattle.loads.specs.declared.Planned.the-variants.{Go}
@@ -53,27 +55,28 @@ module _ (vl : ℕ) (multiple : vl % 128 ≡ 0) (least : 128 ≤ vl) where
   block-in true long = let l = ltb-false vl 256 long in (omega arith, omega arith)
   block-in false long = (omega arith, omega arith)
 
-  shaped : (x : List ℕ) (i : Insn) → (isWide i && ltb vl 256) ≡ false → Shaped (planOf vl x i) (vl / 8)
-  unfolding planOf
-  shaped x (Replicate q size back rn rt) long =
-      let r = replicates (eqb q 1) in
-      let n : ℕ = if eqb q 1 then 16 else 8 in
-      let e = whole-lanes (sizeOf size) n (r .2) in
-      record { room = rw e (omega (arith, r .1)); shape = (refl, rw e (r .0), refl, refl) }
-  shaped x (ByElement dtype imm6 pg rn zt) long =
-      let e = vector (dtypeOf dtype .lane) vl multiple in
-      record { room = rw e (omega arith); shape = (refl, factor-some (lanesIn vl (dtypeOf dtype .lane)) (bytesOf (dtypeOf dtype .lane)) (vl / 8) e (omega arith), rw e (omega arith)) }
-  shaped x (Contiguous dtype offset pg rn zt) long =
-      let e = vector (dtypeOf dtype .lane) vl multiple in
-      record { room = rw e (omega arith); shape = (omega arith, rw e (omega arith)) }
-  shaped x (Block wide msz offset pg rn zt) long =
-      let b = block-in wide long in
-      let k = blockBytes wide / bytesOf (sizeOf msz) in
-      let e = whole-lanes (sizeOf msz) (blockBytes wide) (block-bytes wide .0) in
-      record {
-        room = rw (mul-assoc, e) (b .0);
-        shape = (omega (arith, one-mul k, mul-le-mul-right k (b .1)), rw e (block-bytes wide .0));
-      }
+  module _ (x : List ℕ) (i : Insn) where
+    pub shaped : (s : Shape) → ShapeInRange i s → (isWide s && ltb vl 256) ≡ false → Shaped (planWith i (spreadOf vl x i s)) (vl / 8)
+    unfolding spreadOf
+    shaped (Replicate q back) h long =
+        let r = replicates (eqb q 1) in
+        let n : ℕ = if eqb q 1 then 16 else 8 in
+        let e = whole-lanes (i .element .lane) n (r .2) in
+        record { room = rw e (omega (arith, r .1)); shape = (refl, rw e (r .0), ap (λ (d : Dtype). d .lane) (h .2), ap (λ (d : Dtype). d .signed) (h .2)) }
+    shaped (ByElement imm6) h long =
+        let e = vector (i .element .lane) vl multiple in
+        record { room = rw e (omega arith); shape = (refl, factor-some (lanesIn vl (i .element .lane)) (bytesOf (i .element .lane)) (vl / 8) e (omega arith), rw e (omega arith)) }
+    shaped (Contiguous offset) h long =
+        let e = vector (i .element .lane) vl multiple in
+        record { room = rw e (omega arith); shape = (omega arith, rw e (omega arith)) }
+    shaped (Block wide offset) h long =
+        let b = block-in wide long in
+        let k = blockBytes wide / bytesOf (i .element .lane) in
+        let e = whole-lanes (i .element .lane) (blockBytes wide) (block-bytes wide .0) in
+        record {
+          room = rw (mul-assoc, e) (b .0);
+          shape = (omega (arith, one-mul k, mul-le-mul-right k (b .1)), rw e (block-bytes wide .0));
+        }
 
 pub planned-shaped : (s : Settings) (x : List ℕ) → s .vl % 128 ≡ 0 → 128 ≤ s .vl → (w : ℕ) (p : Plan) → planned s x w ≡ Go p → Shaped p (s .vl / 8)
-planned-shaped s x multiple least = planned-each s x (λ p. Shaped p (s .vl / 8)) (λ i h long. shaped (s .vl) multiple least x i long)
+planned-shaped s x multiple least = planned-each s x (λ p. Shaped p (s .vl / 8)) (λ i h long. shaped (s .vl) multiple least x i (i .shape) (h .shape) long)

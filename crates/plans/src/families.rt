@@ -4,17 +4,17 @@ use loads::Plan;
 use loads::Rule;
 use memory::Address;
 use words::Back;
-use words::Dtype;
 use words::Insn;
 use words::Offset;
+use words::Shape;
 ghost use mathlib.Core.Path.{_≡_};
 ghost use Prim.Native.Nat.{_*_, _≤_, _<_};
 ghost use Rattle.ground.specs.Sizes.{bytesOf};
 ghost use Rattle.words.proofs.Ranges.{OffsetInRange, InsnInRange};
-ghost use Rattle.words.specs.declared.Insn.the-variants.{ByElement, Contiguous, Block};
+ghost use Rattle.words.specs.declared.Shape.the-variants.{ByElement, Contiguous, Block};
 ghost use Rattle.memory.specs.Addresses.{wrap};
 ghost use Rattle.loads.specs.Terms as Terms;
-ghost use Rattle.loads.specs.Plans.{startOf, amountOf, writesBack, replicatePlan, lanesIn, svePlan, planOf};
+ghost use Rattle.loads.specs.Plans.{startOf, amountOf, writesBack, lanesIn, replicated, spreadOf, planWith, planOf};
 
 // A scalar by its number: X0 to X30, SP, PC. Where there is none, 0.
 fn scalar(x: &[u64], n: u32) -> u64
@@ -88,25 +88,53 @@ fn writes(back: Back) -> bool
     }
 }
 
-// LD1R: one read, over 64 bits where Q is 0, else over 128.
-fn replicate(x: &[u64], q: u32, size: Size, back: Back, rn: u32, rt: u32) -> Plan
-    ensures { λ r. ⌜ r ≡ replicatePlan (now (x .entry)) q size back rn rt ⌝ }
+// A plan: what its instruction has, and what its shape decides: where element 0 lies, its elements, the lanes that take one, the rule, the
+// lanes that the stack rule consults, and what is written back.
+fn plan_with(
+    insn: Insn,
+    start: Address,
+    elements: u64,
+    filled: u64,
+    rule: Rule,
+    consulted: u64,
+    back: bool,
+    amount: u64,
+) -> Plan
+    ensures { λ r. ⌜ r ≡ planWith insn (record { start = start .0; elements = elements; filled = filled; rule = rule; consulted = consulted; back = back; amount = amount }) ⌝ }
 {
-    let bytes = if q == 1 { 16 } else { 8 };
+    let element = insn.element;
+    let size = element.memory;
+    let lane = element.lane;
+    let governing = insn.governing;
     Plan {
-        start: Address(scalar(x, rn)),
+        start,
         size,
-        lane: size,
-        signed: false,
-        elements: 1,
-        filled: bytes / size.bytes(),
-        rule: Rule::Always,
-        pg: 0,
-        base: rn,
-        target: rt,
-        back: writes(back),
-        amount: amount(x, size, back),
+        lane,
+        signed: element.signed,
+        elements,
+        filled,
+        rule,
+        consulted,
+        governing,
+        base: insn.base,
+        target: insn.target,
+        back,
+        amount,
     }
+}
+
+// LD1R: one read, over 64 bits where Q is 0, else over 128.
+fn replicate(x: &[u64], insn: Insn, q: u32, back: Back) -> Plan
+    ensures { λ r. ⌜ r ≡ planWith insn (replicated (now (x .entry)) insn q back) ⌝ }
+{
+    let element = insn.element;
+    let size = element.memory;
+    let lane = element.lane;
+    let bytes = if q == 1 { 16 } else { 8 };
+    let filled = bytes / lane.bytes();
+    let start = Address(scalar(x, insn.base));
+    let added = amount(x, size, back);
+    plan_with(insn, start, 1, filled, Rule::Always, 0, writes(back), added)
 }
 
 // N, the lanes of a register.
@@ -116,61 +144,32 @@ fn lanes_in(vl: u64, lane: Size) -> u64
     vl / (8 * lane.bytes())
 }
 
-// What every SVE load has: its sizes, where element 0 lies, its elements, the lanes that take one, the rule, and its registers.
-fn sve(
-    d: Dtype,
-    start: Address,
-    elements: u64,
-    filled: u64,
-    rule: Rule,
-    pg: u32,
-    rn: u32,
-    zt: u32,
-) -> Plan
-    ensures { λ r. ⌜ r ≡ svePlan d (start .0) elements filled rule pg rn zt ⌝ }
-{
-    let size = d.memory;
-    let lane = d.lane;
-    Plan {
-        start,
-        size,
-        lane,
-        signed: d.signed,
-        elements,
-        filled,
-        rule,
-        pg,
-        base: rn,
-        target: zt,
-        back: false,
-        amount: 0,
-    }
-}
-
 // LD1R by element: one read, imm6 elements on, and the lanes by their own bits.
-fn by_element(vl: u64, x: &[u64], dtype: u32, imm6: u32, pg: u32, rn: u32, zt: u32) -> Plan
-    ensures { λ r. ⌜ r ≡ planOf vl (now (x .entry)) (ByElement dtype imm6 pg rn zt) ⌝ }
+fn by_element(vl: u64, x: &[u64], insn: Insn, imm6: u32) -> Plan
+    ensures { λ r. ⌜ r ≡ planWith insn (spreadOf vl (now (x .entry)) insn (ByElement imm6)) ⌝ }
 {
-    let d = Dtype::of(dtype);
-    let memory = d.memory;
-    let lane = d.lane;
-    let base = Address(scalar(x, rn));
+    let element = insn.element;
+    let memory = element.memory;
+    let lane = element.lane;
+    let n = lanes_in(vl, lane);
+    let base = Address(scalar(x, insn.base));
     let start = base.plus(times(imm6 as u64, memory));
-    sve(d, start, 1, lanes_in(vl, lane), Rule::LaneBit, pg, rn, zt)
+    plan_with(insn, start, 1, n, Rule::LaneBit, n, false, 0)
 }
 
 // LD1: a read for each lane; the immediate counts vectors, as they lie in memory.
-fn contiguous(vl: u64, x: &[u64], dtype: u32, offset: Offset, pg: u32, rn: u32, zt: u32) -> Plan
+fn contiguous(vl: u64, x: &[u64], insn: Insn, offset: Offset) -> Plan
     requires { ⌜ OffsetInRange offset ⌝ }
+    requires { ⌜ bytesOf (insn .element .memory) ≤ bytesOf (insn .element .lane) ⌝ }
     requires { ⌜ vl ≤ 2048 ⌝ }
-    ensures { λ r. ⌜ r ≡ planOf vl (now (x .entry)) (Contiguous dtype offset pg rn zt) ⌝ }
+    ensures { λ r. ⌜ r ≡ planWith insn (spreadOf vl (now (x .entry)) insn (Contiguous offset)) ⌝ }
 {
-    let d = Dtype::of(dtype);
-    let memory = d.memory;
-    let lane = d.lane;
+    let element = insn.element;
+    let memory = element.memory;
+    let lane = element.lane;
     let n = lanes_in(vl, lane);
-    let first = start(x, rn, memory, n * memory.bytes(), offset);
-    sve(d, first, n, n, Rule::ElementBit, pg, rn, zt)
+    let first = start(x, insn.base, memory, n * memory.bytes(), offset);
+    plan_with(insn, first, n, n, Rule::ElementBit, n, false, 0)
 }
 
 // A block in bytes.
@@ -181,39 +180,19 @@ fn block_bytes(wide: bool) -> u64
 }
 
 // LD1RQ and, where it is wide, LD1RO: a block, repeated as often as it goes into the register; the immediate counts blocks.
-fn block(
-    vl: u64,
-    x: &[u64],
-    wide: bool,
-    msz: u32,
-    offset: Offset,
-    pg: u32,
-    rn: u32,
-    zt: u32,
-) -> Plan
+fn block(vl: u64, x: &[u64], insn: Insn, wide: bool, offset: Offset) -> Plan
     requires { ⌜ OffsetInRange offset ⌝ }
     requires { ⌜ vl ≤ 2048 ⌝ }
-    ensures { λ r. ⌜ r ≡ planOf vl (now (x .entry)) (Block wide msz offset pg rn zt) ⌝ }
+    ensures { λ r. ⌜ r ≡ planWith insn (spreadOf vl (now (x .entry)) insn (Block wide offset)) ⌝ }
 {
-    let size = Size::of(msz);
+    let element = insn.element;
+    let memory = element.memory;
+    let lane = element.lane;
     let bytes = block_bytes(wide);
-    let k = bytes / size.bytes();
-    let d = Dtype {
-        memory: size,
-        lane: size,
-        signed: false,
-    };
-    let first = start(x, rn, size, bytes, offset);
-    sve(
-        d,
-        first,
-        k,
-        vl / (8 * bytes) * k,
-        Rule::ElementBit,
-        pg,
-        rn,
-        zt,
-    )
+    let k = bytes / lane.bytes();
+    let filled = vl / (8 * bytes) * k;
+    let first = start(x, insn.base, memory, bytes, offset);
+    plan_with(insn, first, k, filled, Rule::ElementBit, k, false, 0)
 }
 
 // The plan of an instruction.
@@ -222,35 +201,11 @@ pub(crate) fn plan_of(vl: u64, x: &[u64], insn: Insn) -> Plan
     requires { ⌜ vl ≤ 2048 ⌝ }
     ensures { λ r. ⌜ r ≡ planOf vl (now (x .entry)) insn ⌝ }
 {
-    match insn {
-        Insn::Replicate {
-            q,
-            size,
-            back,
-            rn,
-            rt,
-        } => { replicate(x, q, Size::of(size), back, rn, rt) }
-        Insn::ByElement {
-            dtype,
-            imm6,
-            pg,
-            rn,
-            zt,
-        } => { by_element(vl, x, dtype, imm6, pg, rn, zt) }
-        Insn::Contiguous {
-            dtype,
-            offset,
-            pg,
-            rn,
-            zt,
-        } => { contiguous(vl, x, dtype, offset, pg, rn, zt) }
-        Insn::Block {
-            wide,
-            msz,
-            offset,
-            pg,
-            rn,
-            zt,
-        } => { block(vl, x, wide, msz, offset, pg, rn, zt) }
+    let shape = insn.shape;
+    match shape {
+        Shape::Replicate { q, back } => replicate(x, insn, q, back),
+        Shape::ByElement { imm6 } => by_element(vl, x, insn, imm6),
+        Shape::Contiguous { offset } => contiguous(vl, x, insn, offset),
+        Shape::Block { wide, offset } => block(vl, x, insn, wide, offset),
     }
 }

@@ -6,6 +6,7 @@ use loads::Planned;
 use loads::Settings;
 use words::Decoded;
 use words::Insn;
+use words::Shape;
 ghost use mathlib.Core.Path.{_≡_};
 ghost use mathlib.Core.Bool.{not};
 ghost use Prim.Native.Nat.{_≤_};
@@ -14,28 +15,28 @@ ghost use Rattle.loads.specs.Steps.{isWide, switchedOn, plannedLoad, planned};
 ghost use Rattle.plans.specs.Prepares.{plannedFor};
 
 // Whether a load is LD1RO.
-fn is_wide(insn: Insn) -> bool
-    ensures { λ r. ⌜ r ≡ isWide insn ⌝ }
+fn is_wide(shape: Shape) -> bool
+    ensures { λ r. ⌜ r ≡ isWide shape ⌝ }
 {
-    match insn {
-        Insn::Replicate { .. } => false,
-        Insn::ByElement { .. } => false,
-        Insn::Contiguous { .. } => false,
-        Insn::Block { wide, .. } => wide,
+    match shape {
+        Shape::Replicate { .. } => false,
+        Shape::ByElement { .. } => false,
+        Shape::Contiguous { .. } => false,
+        Shape::Block { wide, .. } => wide,
     }
 }
 
 // Whether the switch that a load asks is off: SIMD for LD1R, SVE for any other.
-fn switched_off(settings: Settings, insn: Insn) -> bool
-    ensures { λ r. ⌜ r ≡ not (switchedOn settings insn) ⌝ }
+fn switched_off(settings: Settings, shape: Shape) -> bool
+    ensures { λ r. ⌜ r ≡ not (switchedOn settings shape) ⌝ }
 {
     let simd = settings.simd;
     let sve = settings.sve;
-    match insn {
-        Insn::Replicate { .. } => !simd,
-        Insn::ByElement { .. } => !sve,
-        Insn::Contiguous { .. } => !sve,
-        Insn::Block { .. } => !sve,
+    match shape {
+        Shape::Replicate { .. } => !simd,
+        Shape::ByElement { .. } => !sve,
+        Shape::Contiguous { .. } => !sve,
+        Shape::Block { .. } => !sve,
     }
 }
 
@@ -45,13 +46,14 @@ fn plan_load(settings: Settings, x: &[u64], insn: Insn) -> Planned
     requires { ⌜ settings .vl ≤ 2048 ⌝ }
     ensures { λ r. ⌜ r ≡ plannedLoad settings (now (x .entry)) insn ⌝ }
 {
-    if is_wide(insn) & !settings.f64mm {
+    let shape = insn.shape;
+    if is_wide(shape) & !settings.f64mm {
         return Planned::Stop(Answer::Undefined);
     }
-    if switched_off(settings, insn) {
+    if switched_off(settings, shape) {
         return Planned::Stop(Answer::SwitchedOff);
     }
-    if is_wide(insn) & (settings.vl < 256) {
+    if is_wide(shape) & (settings.vl < 256) {
         return Planned::Stop(Answer::Undefined);
     }
     Planned::Go(families::plan_of(settings.vl, x, insn))

@@ -7,23 +7,10 @@ use mathlib.Core.Logic.{_↔_}
 use native.Mathlib.Omega.{arith}
 use Rattle.ground.proofs.Laws.{if-cases}
 use Rattle.words.specs.Families.{readOf}
-use Rattle.words.specs.Layouts.{Piece, word, Fit, Family, undefinedIn, insnOf, meansOf, Written}
-use Rattle.words.specs.declared.Decoded.{Decoded}
-use Rattle.words.specs.declared.Decoded.the-variants.{Outside, Undefined, Is}
-use Rattle.words.proofs.Layouts as laws
+use Rattle.words.specs.Layouts.{Piece, Family, undefinedIn, insnOf, meansOf, Written}
+use Rattle.words.specs.Insns.{Decoded, Outside, Undefined, Is}
+use Rattle.words.proofs.Layouts.{reads}
 use Rattle.words.proofs.Written.{written}
-
--- a laid-out word reads as its row says
-pub reads : {ps : List Piece} (f : Family ps) → Fit ps → readOf (word ps) ≡ meansOf f
-reads (Family.ld1r-keep q l s size rn rt) h = laws.ld1r-keep q l s size rn rt (omega arith) (omega arith) (omega arith) (omega arith) (omega arith) (omega arith)
-reads (Family.ld1r-post q l rm s size rn rt) h = laws.ld1r-post q l rm s size rn rt (omega arith) (omega arith) (omega arith) (omega arith) (omega arith) (omega arith) (omega arith)
-reads (Family.ld1r-element dh imm6 dl pg rn zt) h = laws.ld1r-element dh imm6 dl pg rn zt (omega arith) (omega arith) (omega arith) (omega arith) (omega arith) (omega arith)
-reads (Family.ld1-immediate dtype imm4 pg rn zt) h = laws.ld1-immediate dtype imm4 pg rn zt (omega arith) (omega arith) (omega arith) (omega arith) (omega arith)
-reads (Family.ld1-scalar dtype rm pg rn zt) h = laws.ld1-scalar dtype rm pg rn zt (omega arith) (omega arith) (omega arith) (omega arith) (omega arith)
-reads (Family.ld1rq-immediate msz imm4 pg rn zt) h = laws.ld1rq-immediate msz imm4 pg rn zt (omega arith) (omega arith) (omega arith) (omega arith) (omega arith)
-reads (Family.ld1rq-scalar msz rm pg rn zt) h = laws.ld1rq-scalar msz rm pg rn zt (omega arith) (omega arith) (omega arith) (omega arith) (omega arith)
-reads (Family.ld1ro-immediate msz imm4 pg rn zt) h = laws.ld1ro-immediate msz imm4 pg rn zt (omega arith) (omega arith) (omega arith) (omega arith) (omega arith)
-reads (Family.ld1ro-scalar msz rm pg rn zt) h = laws.ld1ro-scalar msz rm pg rn zt (omega arith) (omega arith) (omega arith) (omega arith) (omega arith)
 
 -- no row says outside
 inside : {ps : List Piece} (f : Family ps) → meansOf f ≡ Outside → ⊥

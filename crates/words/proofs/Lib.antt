@@ -1,9 +1,9 @@
 -- The laws of the two tables.
-pub mod Rows
 pub mod Ranges
 pub mod Rule
 pub mod Unique
 pub mod Pieces
+pub mod Apart
 pub mod Layouts
 pub mod Written
 pub mod Decodes

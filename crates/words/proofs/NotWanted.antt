@@ -5,7 +5,7 @@ use mathlib.Core.Bool.{and-false}
 use mathlib.Core.List.{List, [], _∷_}
 use Rattle.words.specs.Families.{families, readOf}
 use Rattle.words.specs.Layouts.{Piece, _▹_, word, Fit}
-use Rattle.words.specs.declared.Decoded.the-variants.{Outside}
+use Rattle.words.specs.Insns.{Outside}
 use Rattle.words.proofs.Pieces.{laid, joined, halves}
 
 -- LD1W and LD1D to lanes of 128 bits, immediate: the class .Q of page 003

@@ -1,20 +1,17 @@
 -- Every field of a load that was read is in range, so that a caller may index its registers and tables by them.
-use Prim.Native.Nat.{ℕ, _<_}
+use Prim.Native.Nat.{ℕ, _+_, _*_, _≤_, _<_}
+use mathlib.Core.Path.{_≡_, refl}
 use mathlib.Core.Bool.{Bool, _||_}
 use native.Mathlib.Omega.{arith}
 use lib.Dec.{eqb}
 use borrow.Author.Tests.{eqb-false}
 use Rattle.ground.proofs.Laws.{if-cases, first-each}
+use Rattle.ground.specs.Sizes.{bytesOf, sizeOf}
 use Rattle.words.specs.Fields.{bits}
-use Rattle.words.specs.Families.{replicateOf, byElementOf, contiguousOf, blockOf, immediate, register, scalarOf, families, readOf}
-use Rattle.words.specs.declared.Offset.{Offset}
-use Rattle.words.specs.declared.Offset.the-variants.{Imm, Reg}
-use Rattle.words.specs.declared.Back.{Back}
-use Rattle.words.specs.declared.Back.the-variants.{Keep, Post}
-use Rattle.words.specs.declared.Insn.{Insn}
-use Rattle.words.specs.declared.Insn.the-variants.{Replicate, ByElement, Contiguous, Block}
-use Rattle.words.specs.declared.Decoded.{Decoded}
-use Rattle.words.specs.declared.Decoded.the-variants.{Outside, Undefined, Is}
+use Rattle.words.specs.Dtypes.{plainOf, dtypeOf}
+use Rattle.words.specs.Insns.{insn, Insn, Shape, Replicate, ByElement, Contiguous, Block, Governing, None, By, Dtype, Offset, Imm, Reg, Back, Keep, Post, Decoded, Outside, Undefined, Is}
+use Rattle.words.specs.Families.{replicateOf, sveOf, byElementOf, contiguousOf, blockOf, immediate, register, scalarOf, families, choices, readOf}
+use Rattle.words.proofs.Rule.{never-wider}
 
 -- a scalar offset is never register 31
 abbrev pub OffsetInRange : Offset → Type 0
@@ -25,11 +22,30 @@ abbrev pub BackInRange : Back → Type 0
 BackInRange Keep = Unit {0}
 BackInRange (Post r) = r < 32
 
-abbrev pub InsnInRange : Insn → Type 0
-InsnInRange (Replicate q size back rn rt) = (q < 2) × (size < 4) × BackInRange back × (rn < 32) × (rt < 32)
-InsnInRange (ByElement dtype imm6 pg rn zt) = (dtype < 16) × (imm6 < 64) × (pg < 8) × (rn < 32) × (zt < 32)
-InsnInRange (Contiguous dtype offset pg rn zt) = (dtype < 16) × OffsetInRange offset × (pg < 8) × (rn < 32) × (zt < 32)
-InsnInRange (Block wide msz offset pg rn zt) = (msz < 4) × OffsetInRange offset × (pg < 8) × (rn < 32) × (zt < 32)
+-- one of the first eight predicates governs
+abbrev pub Governed : Governing → Type 0
+Governed None = ⊥
+Governed (By g) = g < 8
+
+-- an element is a row of the dtype table, or is as wide in memory as in its lane
+abbrev pub InTable : Dtype → Type 0
+InTable d = (n : ℕ) × (n < 16) × (d ≡ dtypeOf n)
+
+abbrev pub Plain : Dtype → Type 0
+Plain d = d ≡ plainOf (d .memory)
+
+-- nothing governs LD1R, and every other load is governed
+abbrev pub ShapeInRange : Insn → Shape → Type 0
+ShapeInRange i (Replicate q back) = (q < 2) × BackInRange back × Plain (i .element) × (i .governing ≡ None)
+ShapeInRange i (ByElement imm6) = (imm6 < 64) × Governed (i .governing) × InTable (i .element)
+ShapeInRange i (Contiguous offset) = OffsetInRange offset × Governed (i .governing) × InTable (i .element)
+ShapeInRange i (Block wide offset) = OffsetInRange offset × Governed (i .governing) × Plain (i .element)
+
+pub record InsnInRange (i : Insn) : Type 0 where
+  pub narrower : bytesOf (i .element .memory) ≤ bytesOf (i .element .lane)
+  pub base : i .base < 32
+  pub target : i .target < 32
+  pub shape : ShapeInRange i (i .shape)
 
 abbrev pub InRange : Decoded → Type 0
 InRange Outside = Unit {0}
@@ -37,16 +53,22 @@ InRange Undefined = Unit {0}
 InRange (Is i) = InsnInRange i
 
 module _ (w : ℕ) where
-  replicate-in : (back : Back) → BackInRange back → InRange (replicateOf w back)
+  replicate-in : (back : Back) → BackInRange back → InRange (replicateOf back w)
   replicate-in back h =
-      if-cases InRange (eqb (bits w 22 22) 0 || eqb (bits w 12 12) 1) Undefined (Is (Replicate (bits w 30 30) (bits w 11 10) back (bits w 9 5) (bits w 4 0))) (λ _. tt)
-      (λ _. (omega arith, omega arith, h, omega arith, omega arith))
+      if-cases InRange (eqb (bits w 22 22) 0 || eqb (bits w 12 12) 1) Undefined (Is (insn (plainOf (sizeOf (bits w 11 10))) None (bits w 9 5) (bits w 4 0) (Replicate (bits w 30 30) back))) (λ _. tt)
+      (λ _. record { narrower = omega arith; base = omega arith; target = omega arith; shape = (omega arith, h, refl, refl) })
 
-  post-in : InRange (replicateOf w (Post (bits w 20 16)))
+  post-in : InRange (replicateOf (Post (bits w 20 16)) w)
   post-in = replicate-in (Post (bits w 20 16)) (omega arith)
 
+  sve-in : (d : Dtype) (s : Shape) → bytesOf (d .memory) ≤ bytesOf (d .lane) → ShapeInRange (sveOf w d s) s → InsnInRange (sveOf w d s)
+  sve-in d s n h = record { narrower = n; base = omega arith; target = omega arith; shape = h }
+
+  governed : Governed (By (bits w 12 10))
+  governed = omega arith
+
   element-in : InRange (byElementOf w)
-  element-in = omega arith
+  element-in = sve-in _ (ByElement (bits w 21 16)) (never-wider (bits w 24 23 * 4 + bits w 14 13)) (omega arith, governed, (_, omega arith, refl))
 
   immediate-in : OffsetInRange (immediate w)
   immediate-in = omega arith
@@ -58,14 +80,14 @@ module _ (w : ℕ) where
       if-cases InRange (eqb (bits w 20 16) 31) Undefined load (λ _. tt)
       (λ t. let ne = eqb-false (bits w 20 16) 31 t in h (omega arith))
 
-  contiguous-in : (o : Offset) → OffsetInRange o → InRange (contiguousOf w o)
-  contiguous-in o h = (omega arith, h, omega arith, omega arith, omega arith)
+  contiguous-in : (o : Offset) → OffsetInRange o → InRange (contiguousOf o w)
+  contiguous-in o h = sve-in _ (Contiguous o) (never-wider (bits w 24 21)) (h, governed, (_, omega arith, refl))
 
-  block-in : (wide : Bool) (o : Offset) → OffsetInRange o → InRange (blockOf wide w o)
-  block-in wide o h = (omega arith, h, omega arith, omega arith, omega arith)
+  block-in : (wide : Bool) (o : Offset) → OffsetInRange o → InRange (blockOf wide o w)
+  block-in wide o h = sve-in _ (Block wide o) (omega arith) (h, governed, refl)
 
   pub in-range : InRange (readOf w)
   unfolding readOf families
   in-range =
-      first-each InRange (families w) Outside
+      first-each InRange (choices families w) Outside
       (search (replicate-in, post-in, element-in, immediate-in, scalar-in, contiguous-in, block-in) depth 15) tt

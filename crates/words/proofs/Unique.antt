@@ -4,8 +4,7 @@ use mathlib.Core.Path.{_≡_}
 use Rattle.ground.proofs.Laws.{only-one}
 use Rattle.words.specs.Families.{readOf}
 use Rattle.words.specs.Dtypes.{dtypeOf}
-use Rattle.words.specs.declared.Decoded.{Decoded}
-use Rattle.words.specs.declared.Dtype.{Dtype}
+use Rattle.words.specs.Insns.{Dtype, Decoded}
 
 pub dtype-unique : (d : ℕ) (r s : Dtype) → r ≡ dtypeOf d → s ≡ dtypeOf d → r ≡ s
 dtype-unique d r s p q = only-one p q

@@ -7,11 +7,10 @@ use native.Mathlib.Omega.{arith}
 use borrow.Author.Tests.{eqb-true}
 use Rattle.ground.proofs.Laws.{and-left, and-right, first-each}
 use Rattle.words.specs.Fields.{bits}
-use Rattle.words.specs.Families.{families, readOf}
+use Rattle.words.specs.Families.{families, choices, readOf}
 use Rattle.words.specs.Layouts.{Piece, widths, Fit, Family, Written}
 use Rattle.words.specs.Layouts.Family.{ld1r-keep, ld1r-post, ld1r-element, ld1-immediate, ld1-scalar, ld1rq-immediate, ld1rq-scalar, ld1ro-immediate, ld1ro-scalar}
-use Rattle.words.specs.declared.Decoded.{Decoded}
-use Rattle.words.specs.declared.Decoded.the-variants.{Outside}
+use Rattle.words.specs.Insns.{Decoded, Outside}
 use Rattle.words.proofs.Pieces.{Placed, relaid, halves}
 
 -- what a row's tests say of the word
@@ -31,7 +30,7 @@ module _ (w : ℕ) (h : w < 2 ^ 32) where
   pub written : (readOf w ≡ Outside → ⊥) → Written w
   unfolding readOf families
   written =
-      first-each Found (families w) Outside
+      first-each Found (choices families w) Outside
       ((λ t.
       let a = halves w 23 6 1 0b0011010 (search met) in
       let b = halves w 13 6 3 0b000000110 (search met) in

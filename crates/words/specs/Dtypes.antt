@@ -5,13 +5,17 @@ use mathlib.Core.List.{List, [], _∷_}
 use lib.ListN.{getD}
 use Rattle.ground.specs.declared.Size.{Size}
 use Rattle.ground.specs.declared.Size.the-variants.{B8, B16, B32, B64}
-use Rattle.words.specs.declared.Dtype.{Dtype}
+use Rattle.words.specs.Insns.{Dtype}
 
 abbrev pub u : Size → Size → Dtype
 u m l = record { memory = m; lane = l; signed = false }
 
 abbrev pub s : Size → Size → Dtype
 s m l = record { memory = m; lane = l; signed = true }
+
+-- an element that is as wide in memory as in its lane
+abbrev pub plainOf : Size → Dtype
+plainOf size = u size size
 
 -- rows 0 to 15
 unfoldable pub dtypes : List Dtype

@@ -4,31 +4,31 @@ use mathlib.Core.Bool.{Bool, true, false, _||_}
 use mathlib.Core.List.{List, [], _∷_}
 use lib.Dec.{eqb}
 use Rattle.ground.specs.Choices.{if_then_else_, allOf, Row, _⇒_, firstOf}
+use Rattle.ground.specs.Sizes.{sizeOf}
 use Rattle.words.specs.Fields.{bits}
-use Rattle.words.specs.declared.Offset.{Offset}
-use Rattle.words.specs.declared.Offset.the-variants.{Imm, Reg}
-use Rattle.words.specs.declared.Back.{Back}
-use Rattle.words.specs.declared.Back.the-variants.{Keep, Post}
-use Rattle.words.specs.declared.Insn.the-variants.{Replicate, ByElement, Contiguous, Block}
-use Rattle.words.specs.declared.Decoded.{Decoded}
-use Rattle.words.specs.declared.Decoded.the-variants.{Outside, Undefined, Is}
+use Rattle.words.specs.Dtypes.{plainOf, dtypeOf}
+use Rattle.words.specs.Insns.{insn, Insn, Shape, Replicate, ByElement, Contiguous, Block, None, By, Dtype, Offset, Imm, Reg, Back, Keep, Post, Decoded, Outside, Undefined, Is}
 
 -- LD1R: L=0 or S=1 is undefined
-abbrev pub replicateOf : ℕ → Back → Decoded
-replicateOf w back =
+abbrev pub replicateOf : Back → ℕ → Decoded
+replicateOf back w =
     if eqb (bits w 22 22) 0 || eqb (bits w 12 12) 1 then Undefined
-    else Is (Replicate (bits w 30 30) (bits w 11 10) back (bits w 9 5) (bits w 4 0))
+    else Is (insn (plainOf (sizeOf (bits w 11 10))) None (bits w 9 5) (bits w 4 0) (Replicate (bits w 30 30) back))
+
+-- what every SVE word has: a governing predicate, a base and a target
+abbrev pub sveOf : ℕ → Dtype → Shape → Insn
+sveOf w element shape = insn element (By (bits w 12 10)) (bits w 9 5) (bits w 4 0) shape
 
 -- LD1R by element: dtype is dh then dl
 abbrev pub byElementOf : ℕ → Decoded
-byElementOf w = Is (ByElement (bits w 24 23 * 4 + bits w 14 13) (bits w 21 16) (bits w 12 10) (bits w 9 5) (bits w 4 0))
+byElementOf w = Is (sveOf w (dtypeOf (bits w 24 23 * 4 + bits w 14 13)) (ByElement (bits w 21 16)))
 
-abbrev pub contiguousOf : ℕ → Offset → Decoded
-contiguousOf w offset = Is (Contiguous (bits w 24 21) offset (bits w 12 10) (bits w 9 5) (bits w 4 0))
+abbrev pub contiguousOf : Offset → ℕ → Decoded
+contiguousOf offset w = Is (sveOf w (dtypeOf (bits w 24 21)) (Contiguous offset))
 
 -- LD1RQ, and LD1RO where it is wide
-abbrev pub blockOf : Bool → ℕ → Offset → Decoded
-blockOf wide w offset = Is (Block wide (bits w 24 23) offset (bits w 12 10) (bits w 9 5) (bits w 4 0))
+abbrev pub blockOf : Bool → Offset → ℕ → Decoded
+blockOf wide offset w = Is (sveOf w (plainOf (sizeOf (bits w 24 23))) (Block wide offset))
 
 -- the offset of an immediate form, and of a scalar one
 abbrev pub immediate : ℕ → Offset
@@ -41,7 +41,7 @@ register w = Reg (bits w 20 16)
 unfoldable pub scalarOf : ℕ → Decoded → Decoded
 scalarOf w load = if eqb (bits w 20 16) 31 then Undefined else load
 
--- the word has these bits at a row's fixed places
+-- fixed bits of a word: hi to lo have this number
 pub record Fixed : Type 0 where
   pub hi : ℕ
   pub lo : ℕ
@@ -54,23 +54,41 @@ abbrev pub tests : ℕ → List Fixed → List Bool
 tests w [] = []
 tests w (f ∷ fs) = eqb (bits w (f .hi) (f .lo)) (f .is) ∷ tests w fs
 
+-- a word has all fixed bits of a row
 abbrev pub fits : ℕ → List Fixed → Bool
 fits w fs = allOf (tests w fs)
 
--- the nine rows, in the order of the scope of work
-unfoldable pub families : ℕ → List (Row Decoded)
-families w =
-    (fits w (fixed 31 31 0b0 ∷ fixed 29 23 0b0011010 ∷ fixed 21 13 0b000000110 ∷ []) ⇒ replicateOf w Keep)
-    ∷ (fits w (fixed 31 31 0b0 ∷ fixed 29 23 0b0011011 ∷ fixed 21 21 0b0 ∷ fixed 15 13 0b110 ∷ []) ⇒ replicateOf w (Post (bits w 20 16)))
-    ∷ (fits w (fixed 31 25 0b1000010 ∷ fixed 22 22 0b1 ∷ fixed 15 15 0b1 ∷ []) ⇒ byElementOf w)
-    ∷ (fits w (fixed 31 25 0b1010010 ∷ fixed 20 20 0b0 ∷ fixed 15 13 0b101 ∷ []) ⇒ contiguousOf w (immediate w))
-    ∷ (fits w (fixed 31 25 0b1010010 ∷ fixed 15 13 0b010 ∷ []) ⇒ scalarOf w (contiguousOf w (register w)))
-    ∷ (fits w (fixed 31 25 0b1010010 ∷ fixed 22 20 0b000 ∷ fixed 15 13 0b001 ∷ []) ⇒ blockOf false w (immediate w))
-    ∷ (fits w (fixed 31 25 0b1010010 ∷ fixed 22 21 0b00 ∷ fixed 15 13 0b000 ∷ []) ⇒ scalarOf w (blockOf false w (register w)))
-    ∷ (fits w (fixed 31 25 0b1010010 ∷ fixed 22 20 0b010 ∷ fixed 15 13 0b001 ∷ []) ⇒ blockOf true w (immediate w))
-    ∷ (fits w (fixed 31 25 0b1010010 ∷ fixed 22 21 0b01 ∷ fixed 15 13 0b000 ∷ []) ⇒ scalarOf w (blockOf true w (register w)))
+-- a row of the table: its fixed bits, and what a word that has them is
+pub record FamilyRow : Type 0 where
+  pub bits : List Fixed
+  pub means : ℕ → Decoded
+
+infix 20 _⇨_
+abbrev pub _⇨_ : List Fixed → (ℕ → Decoded) → FamilyRow
+fs ⇨ means = record { bits = fs; means = means }
+
+-- the nine rows, in the order of the scope of work; no word fits two (`one-row` of Apart), so that their order says nothing
+unfoldable pub families : List FamilyRow
+families =
+    ((fixed 31 31 0b0 ∷ fixed 29 23 0b0011010 ∷ fixed 21 13 0b000000110 ∷ []) ⇨ (λ w. replicateOf Keep w))
+    ∷ ((fixed 31 31 0b0 ∷ fixed 29 23 0b0011011 ∷ fixed 21 21 0b0 ∷ fixed 15 13 0b110 ∷ []) ⇨ (λ w. replicateOf (Post (bits w 20 16)) w))
+    ∷ ((fixed 31 25 0b1000010 ∷ fixed 22 22 0b1 ∷ fixed 15 15 0b1 ∷ []) ⇨ (λ w. byElementOf w))
+    ∷ ((fixed 31 25 0b1010010 ∷ fixed 20 20 0b0 ∷ fixed 15 13 0b101 ∷ []) ⇨ (λ w. contiguousOf (immediate w) w))
+    ∷ ((fixed 31 25 0b1010010 ∷ fixed 15 13 0b010 ∷ []) ⇨ (λ w. scalarOf w (contiguousOf (register w) w)))
+    ∷ ((fixed 31 25 0b1010010 ∷ fixed 22 20 0b000 ∷ fixed 15 13 0b001 ∷ []) ⇨ (λ w. blockOf false (immediate w) w))
+    ∷ ((fixed 31 25 0b1010010 ∷ fixed 22 21 0b00 ∷ fixed 15 13 0b000 ∷ []) ⇨ (λ w. scalarOf w (blockOf false (register w) w)))
+    ∷ ((fixed 31 25 0b1010010 ∷ fixed 22 20 0b010 ∷ fixed 15 13 0b001 ∷ []) ⇨ (λ w. blockOf true (immediate w) w))
+    ∷ ((fixed 31 25 0b1010010 ∷ fixed 22 21 0b01 ∷ fixed 15 13 0b000 ∷ []) ⇨ (λ w. scalarOf w (blockOf true (register w) w)))
     ∷ []
 
--- what a word is: outside where no row fits
+-- each row's test of a word, with what the row says of it
+abbrev pub choices : List FamilyRow → ℕ → List (Row Decoded)
+choices [] w = []
+choices (r ∷ rs) w = (fits w (r .bits) ⇒ r .means w) ∷ choices rs w
+
+-- what a word is by a table's rows: outside where none fits
+abbrev pub readBy : List FamilyRow → ℕ → Decoded
+readBy rows w = firstOf (choices rows w) Outside
+
 unfoldable pub readOf : ℕ → Decoded
-readOf w = firstOf (families w) Outside
+readOf w = readBy families w

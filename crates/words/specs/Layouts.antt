@@ -5,12 +5,9 @@ use mathlib.Core.Bool.{Bool, true, false, _||_}
 use mathlib.Core.List.{List, [], _∷_}
 use lib.Dec.{eqb}
 use Rattle.ground.specs.Choices.{if_then_else_}
-use Rattle.words.specs.declared.Offset.the-variants.{Imm, Reg}
-use Rattle.words.specs.declared.Back.the-variants.{Keep, Post}
-use Rattle.words.specs.declared.Insn.{Insn}
-use Rattle.words.specs.declared.Insn.the-variants.{Replicate, ByElement, Contiguous, Block}
-use Rattle.words.specs.declared.Decoded.{Decoded}
-use Rattle.words.specs.declared.Decoded.the-variants.{Undefined, Is}
+use Rattle.ground.specs.Sizes.{sizeOf}
+use Rattle.words.specs.Dtypes.{plainOf, dtypeOf}
+use Rattle.words.specs.Insns.{insn, Insn, Replicate, ByElement, Contiguous, Block, None, By, Imm, Reg, Keep, Post, Decoded, Undefined, Is}
 
 -- a number in a width of bits
 pub record Piece : Type 0 where
@@ -100,15 +97,15 @@ undefinedIn (ld1ro-scalar msz rm pg rn zt) = eqb rm 31
 
 -- the instruction of a row; "dtype is also dh then dl"
 abbrev pub insnOf : {ps : List Piece} → Family ps → Insn
-insnOf (ld1r-keep q l s size rn rt) = Replicate q size Keep rn rt
-insnOf (ld1r-post q l rm s size rn rt) = Replicate q size (Post rm) rn rt
-insnOf (ld1r-element dh imm6 dl pg rn zt) = ByElement (dh * 4 + dl) imm6 pg rn zt
-insnOf (ld1-immediate dtype imm4 pg rn zt) = Contiguous dtype (Imm imm4) pg rn zt
-insnOf (ld1-scalar dtype rm pg rn zt) = Contiguous dtype (Reg rm) pg rn zt
-insnOf (ld1rq-immediate msz imm4 pg rn zt) = Block false msz (Imm imm4) pg rn zt
-insnOf (ld1rq-scalar msz rm pg rn zt) = Block false msz (Reg rm) pg rn zt
-insnOf (ld1ro-immediate msz imm4 pg rn zt) = Block true msz (Imm imm4) pg rn zt
-insnOf (ld1ro-scalar msz rm pg rn zt) = Block true msz (Reg rm) pg rn zt
+insnOf (ld1r-keep q l s size rn rt) = insn (plainOf (sizeOf size)) None rn rt (Replicate q Keep)
+insnOf (ld1r-post q l rm s size rn rt) = insn (plainOf (sizeOf size)) None rn rt (Replicate q (Post rm))
+insnOf (ld1r-element dh imm6 dl pg rn zt) = insn (dtypeOf (dh * 4 + dl)) (By pg) rn zt (ByElement imm6)
+insnOf (ld1-immediate dtype imm4 pg rn zt) = insn (dtypeOf dtype) (By pg) rn zt (Contiguous (Imm imm4))
+insnOf (ld1-scalar dtype rm pg rn zt) = insn (dtypeOf dtype) (By pg) rn zt (Contiguous (Reg rm))
+insnOf (ld1rq-immediate msz imm4 pg rn zt) = insn (plainOf (sizeOf msz)) (By pg) rn zt (Block false (Imm imm4))
+insnOf (ld1rq-scalar msz rm pg rn zt) = insn (plainOf (sizeOf msz)) (By pg) rn zt (Block false (Reg rm))
+insnOf (ld1ro-immediate msz imm4 pg rn zt) = insn (plainOf (sizeOf msz)) (By pg) rn zt (Block true (Imm imm4))
+insnOf (ld1ro-scalar msz rm pg rn zt) = insn (plainOf (sizeOf msz)) (By pg) rn zt (Block true (Reg rm))
 
 abbrev pub meansOf : {ps : List Piece} → Family ps → Decoded
 meansOf f = if undefinedIn f then Undefined else Is (insnOf f)

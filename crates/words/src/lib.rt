@@ -3,8 +3,9 @@
 use ground::Size;
 ghost use mathlib.Core.Path.{_≡_};
 ghost use mathlib.Core.Bool.{true, false};
-ghost use Rattle.words.specs.Dtypes.{dtypeOf};
-ghost use Rattle.words.specs.Families.{replicateOf, byElementOf, contiguousOf, blockOf, scalarOf, readOf};
+ghost use Rattle.words.specs.Dtypes.{plainOf, dtypeOf};
+ghost use Rattle.words.specs.Families.{replicateOf, sveOf, byElementOf, contiguousOf, blockOf, scalarOf, readOf};
+ghost use Rattle.words.specs.Insns.{Is};
 
 // What an SVE load adds to its base: a field of four bits, signed, that counts blocks; or a scalar register.
 pub enum Offset {
@@ -18,44 +19,10 @@ pub enum Back {
     Post(u32),
 }
 
-// A load, with the fields of its word. Contiguous is LD1; Block is LD1RQ, and LD1RO where it is wide.
-pub enum Insn {
-    Replicate {
-        q: u32,
-        size: u32,
-        back: Back,
-        rn: u32,
-        rt: u32,
-    },
-    ByElement {
-        dtype: u32,
-        imm6: u32,
-        pg: u32,
-        rn: u32,
-        zt: u32,
-    },
-    Contiguous {
-        dtype: u32,
-        offset: Offset,
-        pg: u32,
-        rn: u32,
-        zt: u32,
-    },
-    Block {
-        wide: bool,
-        msz: u32,
-        offset: Offset,
-        pg: u32,
-        rn: u32,
-        zt: u32,
-    },
-}
-
-// What a word is. Undefined is what the word alone tells; F64MM and the vector length are the bench's.
-pub enum Decoded {
-    Outside,
-    Undefined,
-    Is(Insn),
+// The predicate register that governs an instruction, or none: then no bit is asked, and none is set.
+pub enum Governing {
+    None,
+    By(u32),
 }
 
 // A row of the dtype table: an element's size in memory, its lane's, and whether its sign is extended.
@@ -63,6 +30,30 @@ pub struct Dtype {
     pub memory: Size,
     pub lane: Size,
     pub signed: bool,
+}
+
+// What an instruction of one shape has beside what all have. Contiguous is LD1; Block is LD1RQ, and LD1RO where it is wide.
+pub enum Shape {
+    Replicate { q: u32, back: Back },
+    ByElement { imm6: u32 },
+    Contiguous { offset: Offset },
+    Block { wide: bool, offset: Offset },
+}
+
+// An instruction: what every load has, and its shape.
+pub struct Insn {
+    pub element: Dtype,
+    pub base: u32,
+    pub target: u32,
+    pub governing: Governing,
+    pub shape: Shape,
+}
+
+// What a word is. Undefined is what the word alone tells; F64MM and the vector length are the bench's.
+pub enum Decoded {
+    Outside,
+    Undefined,
+    Is(Insn),
 }
 
 impl Dtype {
@@ -95,56 +86,77 @@ impl Dtype {
     }
 }
 
+// An element of one size, in memory as in its lane.
+fn plain(size: Size) -> Dtype
+    ensures { λ r. ⌜ r ≡ plainOf size ⌝ }
+{
+    Dtype {
+        memory: size,
+        lane: size,
+        signed: false,
+    }
+}
+
+// LD1R: L=0 or S=1 is undefined. No predicate governs it.
 fn replicate(word: u32, back: Back) -> Decoded
-    ensures { λ r. ⌜ r ≡ replicateOf word back ⌝ }
+    ensures { λ r. ⌜ r ≡ replicateOf back word ⌝ }
 {
     if (word / 4194304 % 2 == 0) | (word / 4096 % 2 == 1) {
         return Decoded::Undefined;
     }
-    Decoded::Is(Insn::Replicate {
-        q: word / 1073741824 % 2,
-        size: word / 1024 % 4,
-        back,
-        rn: word / 32 % 32,
-        rt: word / 1 % 32,
+    Decoded::Is(Insn {
+        element: plain(Size::of(word / 1024 % 4)),
+        base: word / 32 % 32,
+        target: word / 1 % 32,
+        governing: Governing::None,
+        shape: Shape::Replicate {
+            q: word / 1073741824 % 2,
+            back,
+        },
+    })
+}
+
+// What every SVE word has: the registers, and a governing predicate.
+fn sve(word: u32, element: Dtype, shape: Shape) -> Decoded
+    ensures { λ r. ⌜ r ≡ Is (sveOf word element shape) ⌝ }
+{
+    Decoded::Is(Insn {
+        element,
+        base: word / 32 % 32,
+        target: word / 1 % 32,
+        governing: Governing::By(word / 1024 % 8),
+        shape,
     })
 }
 
 fn by_element(word: u32) -> Decoded
     ensures { λ r. ⌜ r ≡ byElementOf word ⌝ }
 {
-    Decoded::Is(Insn::ByElement {
-        dtype: word / 8388608 % 4 * 4 + word / 8192 % 4,
-        imm6: word / 65536 % 64,
-        pg: word / 1024 % 8,
-        rn: word / 32 % 32,
-        zt: word / 1 % 32,
-    })
+    let element = Dtype::of(word / 8388608 % 4 * 4 + word / 8192 % 4);
+    sve(
+        word,
+        element,
+        Shape::ByElement {
+            imm6: word / 65536 % 64,
+        },
+    )
 }
 
 fn contiguous(word: u32, offset: Offset) -> Decoded
-    ensures { λ r. ⌜ r ≡ contiguousOf word offset ⌝ }
+    ensures { λ r. ⌜ r ≡ contiguousOf offset word ⌝ }
 {
-    Decoded::Is(Insn::Contiguous {
-        dtype: word / 2097152 % 16,
-        offset,
-        pg: word / 1024 % 8,
-        rn: word / 32 % 32,
-        zt: word / 1 % 32,
-    })
+    sve(
+        word,
+        Dtype::of(word / 2097152 % 16),
+        Shape::Contiguous { offset },
+    )
 }
 
 fn block(wide: bool, word: u32, offset: Offset) -> Decoded
-    ensures { λ r. ⌜ r ≡ blockOf wide word offset ⌝ }
+    ensures { λ r. ⌜ r ≡ blockOf wide offset word ⌝ }
 {
-    Decoded::Is(Insn::Block {
-        wide,
-        msz: word / 8388608 % 4,
-        offset,
-        pg: word / 1024 % 8,
-        rn: word / 32 % 32,
-        zt: word / 1 % 32,
-    })
+    let element = plain(Size::of(word / 8388608 % 4));
+    sve(word, element, Shape::Block { wide, offset })
 }
 
 // An SVE scalar form of a load: Rm = 31 is undefined.

@@ -10,7 +10,6 @@ use mir.Syntax.{w64}
 use mir.Val.{Fits}
 use Rattle.memory.specs.Areas.{areasOf}
 use Rattle.memory.specs.Bytes.{lookOf}
-use Rattle.memory.specs.Troubles.{nowhere, denied}
 use Rattle.memory.proofs.Turns.{SoFar, begun, bad-byte, in-word, turned, finished}
 use Rattle.memory.proofs.bytes_from.Statement.{statement}
 use Rattle.memory.proofs.bytes_from.Tie as tie
@@ -46,24 +45,17 @@ loop-holds c = begun _ _ _
 byte-requires : tie.Need-byte-requires Inv-loop μ-loop
 byte-requires c κs = tt
 
-enum-told : tie.Need-enum-told Inv-loop μ-loop
-enum-told c = c .match .keys1
+enum-known-f : tie.Need-enum-known-f Inv-loop μ-loop
+enum-known-f c = c .match .keys1
 
 returns : tie.Need-returns Inv-loop μ-loop
 returns c =
-    let t = c .before .before .before in
-    bad-byte (t .before .loop .inv) (t .loop-test .taken) (G t .pre) nowhere (sym (c .before .before .byte .ensures) ∙ c .enum-told .given .1)
-
-enum-told-2 : tie.Need-enum-told-2 Inv-loop μ-loop
-enum-told-2 c = c .match .keys2
-
-returns-2 : tie.Need-returns-2 Inv-loop μ-loop
-returns-2 c =
-    let t = c .before .before .before in
-    bad-byte (t .before .loop .inv) (t .loop-test .taken) (G t .pre) denied (sym (c .before .before .byte .ensures) ∙ c .enum-told2 .given .1)
+    let t = c .before .before .before .before in
+    let f = c .before .f .given in
+    bad-byte (t .before .loop .inv) (t .loop-test .taken) (G t .pre) (f .0 .0) (sym (c .before .before .before .byte .ensures) ∙ f .1)
 
 enum-known-b : tie.Need-enum-known-b Inv-loop μ-loop
-enum-known-b c = c .match .keys3
+enum-known-b c = c .match .keys2
 
 cast-value : tie.Need-cast-value Inv-loop μ-loop
 cast-value c = search needs
@@ -96,8 +88,8 @@ loop-again c =
     (turned (t .before .loop .inv) (t .loop-test .taken) (G t .pre) b (omega arith)
     (sym (c .before .before .before .before .byte .ensures) ∙ c .before .before .b .given .1))
 
-returns-3 : tie.Need-returns-3 Inv-loop μ-loop
-returns-3 c = finished (c .before .loop .inv) (c .loop-test .left)
+returns-2 : tie.Need-returns-2 Inv-loop μ-loop
+returns-2 c = finished (c .before .loop .inv) (c .loop-test .left)
 
 pub bytes-from-spec : {M : Type 1} → statement M
 bytes-from-spec =
@@ -107,10 +99,8 @@ bytes-from-spec =
     μ-loop
     loop-holds
     byte-requires
-    enum-told
+    enum-known-f
     returns
-    enum-told-2
-    returns-2
     enum-known-b
     cast-value
     mul-value
@@ -120,4 +110,4 @@ bytes-from-spec =
     add-i
     loop-less
     loop-again
-    returns-3)
+    returns-2)

@@ -8,4 +8,4 @@ is-wide-spec =
     (λ c. rw (c .enum-told .given .1))
     (λ c. rw (c .enum-told2 .given .1))
     (λ c. rw (c .enum-told3 .given .1))
-    (λ c. rw (c .before .insn .given .1)))
+    (λ c. rw (c .before .shape .given .1)))

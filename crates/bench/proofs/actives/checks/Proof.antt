@@ -1,13 +1,20 @@
--- `checks` meets its contract: some element is asked for exactly where some lane that decides is active.
-use mathlib.Core.Path.{_∙_}
+-- `checks` meets its contract, by the rule.
+use mathlib.Core.Path.{sym, ap, _∙_}
+use mathlib.Core.Bool.{Bool}
 use borrow.Author.Needs.{needs}
-use Rattle.bench.proofs.Rules.{by-always, by-lane, by-element, checks-by}
+use denote.Ref.{now}
+use Rattle.loads.specs.Lanes.{checksBy, checksStack}
+use Rattle.loads.specs.declared.Rule.{Rule}
 use Rattle.bench.proofs.actives.checks.Statement.{statement}
 use Rattle.bench.proofs.actives.checks.Tie as tie
 
+abbrev by : tie.Start → Rule → Bool
+by g r = checksBy (g .args .plan) (now (g .args .pred)) r
+
 pub checks-spec : {M : Type 1} → statement M
+unfolding checksStack
 checks-spec =
     tie.close (tie.spec (λ c. c .match .keys1) (λ c. c .match .keys2) (λ c κs. search needs) (λ c. c .match .keys3) (λ c κs. search needs)
-    (λ c. by-always _ _ (c .enum-told .given .1) ∙ checks-by _ _ (c .before .before .before .pre))
-    (λ c. c .some-active .ensures ∙ by-lane _ _ (c .before .enum-told2 .given .1) ∙ checks-by _ _ (c .before .before .before .before .pre))
-    (λ c. c .some-active2 .ensures ∙ by-element _ _ (c .before .enum-told3 .given .1) ∙ checks-by _ _ (c .before .before .before .before .pre)))
+    (λ c. ap (by (c .before .before .before)) (sym (c .enum-told .given .1)))
+    (λ c. c .some-active .ensures ∙ ap (by (c .before .before .before .before)) (sym (c .before .enum-told2 .given .1)))
+    (λ c. c .some-active2 .ensures ∙ ap (by (c .before .before .before .before)) (sym (c .before .enum-told3 .given .1))))

@@ -28,7 +28,7 @@ own-lanes-spec =
     (λ c κs. tt)
     (λ c κs.
     let g = c .before .before .before .before .before .before .before .before in
-    other-in (g .pre .0) (g .pre .1) (g .pre .2) (c .before .before .before .before .bytes .ensures) (c .before .stride-of .ensures ∙ rw (c .before .before .before .before .bytes .ensures)))
+    other-in (g .pre .0) (g .pre .1) (g .pre .2) (c .before .before .before .before .bytes .ensures) (c .before .stride-of .ensures ∙ rw (c .before .before .before .before .bytes .ensures)) (sym (c .before .before .before .always .ensures) ∙ c .before .before .if1 .left))
     (λ c. search needs)
     (λ c.
     let g = c .before .before .before .before .before .before .before .before .before .before .before in

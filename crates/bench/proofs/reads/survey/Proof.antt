@@ -5,7 +5,6 @@ use Prim.Native.Nat.{_-_}
 use native.Mathlib.Nat.{le-trans, le-of-lt}
 use borrow.Author.Needs.{needs}
 use Rattle.memory.specs.Areas.{areasOf}
-use Rattle.memory.specs.Troubles.{nowhere, denied}
 use Rattle.loads.specs.Answers.{reportOf}
 use Rattle.loads.specs.Lanes.{wanted, asked}
 use Rattle.loads.specs.Outcomes.{answersIn, surveyOf}
@@ -32,13 +31,8 @@ survey-spec =
     (λ c.
     let t = c .before .before .before .before .before in
     ap reportOf (c .ended .ensures)
-    ∙ stopped (t .before .before .before .before .loop .inv) (t .before .before .if1 .taken) (sym (t .before .asks .ensures) ∙ t .if2 .taken) nowhere _ (sym (c .before .before .before .before .element .ensures) ∙ c .before .before .a .given .1))
-    (λ c. c .match .keys2) (λ c κs. tt)
-    (λ c.
-    let t = c .before .before .before .before .before in
-    ap reportOf (c .ended2 .ensures)
-    ∙ stopped (t .before .before .before .before .loop .inv) (t .before .before .if1 .taken) (sym (t .before .asks .ensures) ∙ t .if2 .taken) denied _ (sym (c .before .before .before .before .element .ensures) ∙ c .before .before .a2 .given .1))
-    (λ c. c .match .keys3)
+    ∙ stopped (t .before .before .before .before .loop .inv) (t .before .before .if1 .taken) (sym (t .before .asks .ensures) ∙ t .if2 .taken) _ _ (sym (c .before .before .before .before .element .ensures) ∙ c .before .before .fault .given .1))
+    (λ c. c .match .keys2)
     (λ c. search needs)
     (λ c. next-fits (c .before .before .if1 .taken) (c .before .before .before .before .before .before .before .before .before .before .pre .few)) (λ c. less (c .before .before .if1 .taken))
     (λ c.
@@ -49,4 +43,4 @@ survey-spec =
     (λ w. rw (w .1) (passed s more (sym (c .before .asks .ensures) ∙ w .0 .left)))
     (c .if2 .came))
     (λ c κs. tt)
-    (λ c. ap reportOf (c .ended3 .ensures) ∙ finished (c .before .before .before .loop .inv) (c .before .if1 .left)))
+    (λ c. ap reportOf (c .ended2 .ensures) ∙ finished (c .before .before .before .loop .inv) (c .before .if1 .left)))

@@ -1,29 +1,17 @@
 -- `put_report` meets its contract: three numbers from place 1 on, and the answer's number before them.
 use mathlib.Core.Path.{_≡_, refl, ap, _∙_}
 use mathlib.Core.List.{List, [], _∷_, _++_}
-use Prim.Native.Nat.{ℕ, _≤_, _<_}
+use Prim.Native.Nat.{ℕ, _≤_}
 use native.Mathlib.Omega.{arith}
 use borrow.Author.Needs.{needs}
-use lib.Dec.{lit<}
 use lib.ListN.{length, set, take, drop}
 use Rattle.ground.proofs.Fills.{back-in, first-set}
 use Rattle.loads.specs.Answers.{numberOf, elementOf, addressOf, reportOf}
 use Rattle.loads.specs.declared.StepResult.{StepResult}
-use Rattle.loads.specs.declared.Answer.{Answer}
-use Rattle.loads.specs.declared.Answer.the-variants.{Ran, SetUp, Outside, Undefined, SwitchedOff, Stack, NoMemory, Denied}
+use Rattle.loads.proofs.Numbers.{in-byte}
 use Rattle.cases.specs.Outcomes.{eights, reportBytes}
 use Rattle.cases.proofs.parts.put_report.Statement.{statement}
 use Rattle.cases.proofs.parts.put_report.Tie as tie
-
-in-byte : (a : Answer) → numberOf a < 256
-in-byte Ran = lit< tt
-in-byte SetUp = lit< tt
-in-byte Outside = lit< tt
-in-byte Undefined = lit< tt
-in-byte SwitchedOff = lit< tt
-in-byte Stack = lit< tt
-in-byte (NoMemory a e) = lit< tt
-in-byte (Denied a e) = lit< tt
 
 -- the report, over the first bytes
 reported : (dst : List ℕ) (r : StepResult) {ys : List ℕ} {n e a : ℕ}

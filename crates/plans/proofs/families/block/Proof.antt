@@ -3,7 +3,7 @@ use mathlib.Core.Path.{_∙_}
 use Prim.Native.Nat.{_≤_}
 use native.Mathlib.Omega.{arith}
 use Rattle.ground.proofs.Sizes.{bytes-some}
-use Rattle.loads.specs.Plans.{planOf}
+use Rattle.loads.specs.Plans.{spreadOf}
 use Rattle.plans.proofs.Bounds.{block-few, blocks-few}
 use Rattle.plans.proofs.families.block.Statement.{statement}
 use Rattle.plans.proofs.families.block.Tie as tie
@@ -12,15 +12,15 @@ few : (c : tie.After-bytes) → (16 ≤ c .before .block-bytes .result) × (c .b
 few c = rw (c .before .block-bytes .ensures) (block-few (c .before .before .before .before .args .wide))
 
 pub block-spec : {M : Type 1} → statement M
-unfolding planOf
+unfolding spreadOf
 block-spec =
-    tie.close (tie.spec (λ c κs. tt) (λ c κs. tt) (λ c κs. tt)
-    (λ c. rw (c .bytes .ensures) (bytes-some (c .before .before .of .result)))
-    (λ c κs. (c .before .before .before .before .pre .0, omega (arith, few c)))
-    (λ c. record { fits = omega (arith, few (c .before)) })
-    (λ c. omega (arith, few (c .before)))
+    tie.close (tie.spec (λ c κs. tt) (λ c κs. tt)
+    (λ c. rw (c .bytes .ensures) (bytes-some (c .before .before .before .before .args .insn .element .lane)))
+    (λ c. record { fits = omega (arith, few c) })
+    (λ c. omega (arith, few c))
     (λ c.
-    let g = c .before .before .before .before .before in
-    record { fits = omega (arith, blocks-few (g .args .vl) (c .before .before .block-bytes .result) (c .before .bytes .result) (g .pre .1) (few (c .before) .1)) })
+    let g = c .before .before .before .before in
+    record { fits = omega (arith, blocks-few (g .args .vl) (c .before .block-bytes .result) (c .bytes .result) (g .pre .1) (few c .1)) })
+    (λ c κs. (c .before .before .before .before .pre .0, omega (arith, few c)))
     (λ c κs. tt)
-    (λ c. c .sve .ensures ∙ rw (c .before .start .ensures, c .before .before .bytes .ensures, c .before .before .before .block-bytes .ensures, c .before .before .before .before .of .ensures)))
+    (λ c. c .plan-with .ensures ∙ rw (c .before .start .ensures, c .before .before .bytes .ensures, c .before .before .before .block-bytes .ensures)))

@@ -2,28 +2,23 @@
 use mathlib.Core.Path.{_∙_}
 use Prim.Native.Nat.{_*_, _≤_}
 use native.Mathlib.Omega.{arith}
-use Rattle.ground.proofs.Sizes.{bytes-few}
-use Rattle.ground.specs.Sizes.{bytesOf}
-use Rattle.words.proofs.Rule.{never-wider}
-use Rattle.loads.specs.Plans.{planOf}
+use Rattle.loads.specs.Plans.{spreadOf}
 use Rattle.plans.proofs.Bounds.{vector-few}
 use Rattle.plans.proofs.families.contiguous.Statement.{statement}
 use Rattle.plans.proofs.families.contiguous.Tie as tie
 
--- a vector is small, whether its elements are counted as they lie in memory or in their lanes
-few : (c : tie.After-bytes) → (c .before .lanes-in .result * c .bytes .result ≤ 256) × (c .bytes .result ≤ 8)
+-- a vector is small, as its elements lie in memory
+few : (c : tie.After-bytes) → c .before .lanes-in .result * c .bytes .result ≤ 256
 few c =
     let g = c .before .before .before .before in
-    let d = c .before .before .of .result in
-    let narrow : bytesOf (d .memory) ≤ bytesOf (d .lane) = rw (c .before .before .of .ensures) (never-wider (g .args .dtype)) in
-    rw (c .bytes .ensures, c .before .lanes-in .ensures)
-    (omega (arith, vector-few (d .memory) (d .lane) (g .args .vl) (g .pre .1) narrow, vector-few (d .lane) (d .lane) (g .args .vl) (g .pre .1) (omega arith)), omega (arith, bytes-few (d .memory), bytes-few (d .lane)))
+    let d = g .args .insn .element in
+    rw (c .bytes .ensures, c .before .lanes-in .ensures) (vector-few (d .memory) (d .lane) (g .args .vl) (g .pre .1 .1) (g .pre .1 .0))
 
 pub contiguous-spec : {M : Type 1} → statement M
-unfolding planOf
+unfolding spreadOf
 contiguous-spec =
-    tie.close (tie.spec (λ c κs. tt) (λ c κs. tt) (λ c κs. tt)
+    tie.close (tie.spec (λ c κs. tt) (λ c κs. tt)
     (λ c. record { fits = omega (arith, few c) })
     (λ c κs. (c .before .before .before .before .pre .0, omega (arith, few c)))
     (λ c κs. tt)
-    (λ c. c .sve .ensures ∙ rw (c .before .start .ensures, c .before .before .bytes .ensures, c .before .before .before .lanes-in .ensures, c .before .before .before .before .of .ensures)))
+    (λ c. c .plan-with .ensures ∙ rw (c .before .start .ensures, c .before .before .bytes .ensures, c .before .before .before .lanes-in .ensures)))

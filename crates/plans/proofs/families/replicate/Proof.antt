@@ -8,12 +8,12 @@ use Rattle.ground.proofs.Sizes.{bytes-some}
 use Rattle.plans.proofs.families.replicate.Statement.{statement}
 use Rattle.plans.proofs.families.replicate.Tie as tie
 
-chosen : (c : tie.Joined1) → c .if1 .bytes ≡ (if eqb (c .before .before .args .q) 1 then 16 else 8)
+chosen : (c : tie.Joined1) → c .if1 .bytes ≡ (if eqb (c .before .before .before .args .q) 1 then 16 else 8)
 chosen c = ⊎-elim (λ w. w .1 ∙ rw (eq-eqb _ _ (w .0 .taken))) (λ w. w .1 ∙ rw (ne-eqb _ _ (w .0 .left))) (c .if1 .came)
 
 pub replicate-spec : {M : Type 1} → statement M
 replicate-spec =
-    tie.close (tie.spec (λ c κs. tt) (λ c κs. tt)
-    (λ c. rw (c .before .bytes .ensures) (bytes-some (c .before .before .before .before .before .args .size)))
-    (λ c κs. tt) (λ c κs. tt)
-    (λ c. rw (chosen (c .before .before .before .before .before), c .before .before .before .bytes .ensures, c .before .before .before .before .scalar .ensures, c .before .writes .ensures, c .amount .ensures)))
+    tie.close (tie.spec (λ c κs. tt)
+    (λ c. rw (c .before .bytes .ensures) (bytes-some (c .before .before .before .before .before .args .insn .element .lane)))
+    (λ c κs. tt) (λ c κs. tt) (λ c κs. tt) (λ c κs. tt)
+    (λ c. c .plan-with .ensures ∙ rw (chosen (c .before .before .before .before .before .before), c .before .before .before .before .before .bytes .ensures, c .before .before .before .scalar .ensures, c .before .before .amount .ensures, c .before .writes .ensures)))
