@@ -2,17 +2,19 @@
 use mathlib.Core.Path.{_∙_}
 use Prim.Native.Nat.{_*_, _≤_}
 use native.Mathlib.Omega.{arith}
+use Rattle.ground.proofs.Sizes.{bytes-few}
 use Rattle.loads.specs.Plans.{spreadOf}
 use Rattle.plans.proofs.Bounds.{vector-few}
 use Rattle.plans.proofs.families.contiguous.Statement.{statement}
 use Rattle.plans.proofs.families.contiguous.Tie as tie
 
--- a vector is small, as its elements lie in memory
-few : (c : tie.After-bytes) → c .before .lanes-in .result * c .bytes .result ≤ 256
+-- a vector is small, whether its elements are counted as they lie in memory or in their lanes
+few : (c : tie.After-bytes) → (c .before .lanes-in .result * c .bytes .result ≤ 256) × (c .bytes .result ≤ 8)
 few c =
     let g = c .before .before .before .before in
     let d = g .args .insn .element in
-    rw (c .bytes .ensures, c .before .lanes-in .ensures) (vector-few (d .memory) (d .lane) (g .args .vl) (g .pre .1 .1) (g .pre .1 .0))
+    rw (c .bytes .ensures, c .before .lanes-in .ensures)
+    (omega (arith, vector-few (d .memory) (d .lane) (g .args .vl) (g .pre .1 .1) (g .pre .1 .0), vector-few (d .lane) (d .lane) (g .args .vl) (g .pre .1 .1) (omega arith)), omega (arith, bytes-few (d .memory), bytes-few (d .lane)))
 
 pub contiguous-spec : {M : Type 1} → statement M
 unfolding spreadOf
