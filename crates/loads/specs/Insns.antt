@@ -1,6 +1,4 @@
 -- An instruction and its parts, as the crate words names them: from here every file of this crate takes the names.
-pub use Rattle.words.specs.Insns.{insn}
-pub use Rattle.words.specs.declared.Dtype.{Dtype}
 pub use Rattle.words.specs.declared.Offset.{Offset}
 pub use Rattle.words.specs.declared.Offset.the-variants.{Imm, Reg}
 pub use Rattle.words.specs.declared.Back.{Back}
