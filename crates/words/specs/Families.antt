@@ -70,9 +70,9 @@ fs ⇨ means = record { bits = fs; means = means }
 -- the nine rows, in the order of the scope of work; no word fits two (`one-row` of Apart), so that their order says nothing
 unfoldable pub families : List FamilyRow
 families =
-    ((fixed 31 31 0b0 ∷ fixed 29 23 0b0011010 ∷ fixed 21 13 0b000000110 ∷ []) ⇨ (λ w. replicateOf Keep w))
+    ((fixed 31 31 0b0 ∷ fixed 29 23 0b0011010 ∷ fixed 21 13 0b000000110 ∷ []) ⇨ replicateOf Keep)
     ∷ ((fixed 31 31 0b0 ∷ fixed 29 23 0b0011011 ∷ fixed 21 21 0b0 ∷ fixed 15 13 0b110 ∷ []) ⇨ (λ w. replicateOf (Post (bits w 20 16)) w))
-    ∷ ((fixed 31 25 0b1000010 ∷ fixed 22 22 0b1 ∷ fixed 15 15 0b1 ∷ []) ⇨ (λ w. byElementOf w))
+    ∷ ((fixed 31 25 0b1000010 ∷ fixed 22 22 0b1 ∷ fixed 15 15 0b1 ∷ []) ⇨ byElementOf)
     ∷ ((fixed 31 25 0b1010010 ∷ fixed 20 20 0b0 ∷ fixed 15 13 0b101 ∷ []) ⇨ (λ w. contiguousOf (immediate w) w))
     ∷ ((fixed 31 25 0b1010010 ∷ fixed 15 13 0b010 ∷ []) ⇨ (λ w. scalarOf w (contiguousOf (register w) w)))
     ∷ ((fixed 31 25 0b1010010 ∷ fixed 22 20 0b000 ∷ fixed 15 13 0b001 ∷ []) ⇨ (λ w. blockOf false (immediate w) w))
