@@ -85,7 +85,7 @@ module _ (l : Lent) (b : Bench) (l′ : Lent) (b′ : Bench) (taken : Accepted l
     touched : (e k : ℕ) → Wanted e → k < bytesOf (p .size) → Touched l w b (plusOf (elementAt p e) k)
     touched e k h q =
         let a = active l (b .scalars) (taken .multiple) (taken .least) i (i .shape) (ready .defined .long) e .0 h in
-        (i, ready, e, a, k, q, byte-lies l (b .scalars) i e k a)
+        record { load = i; ready = ready; element = e; active = a; byte = k; within = q; lies = byte-lies l (b .scalars) i e k a }
 
     same-troubles : (e : ℕ) → Wanted e → troubleOf (answersOf l b p e) ≡ troubleOf (answersOf l′ b′ p e)
     unfolding answersIn

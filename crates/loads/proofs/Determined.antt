@@ -1,6 +1,6 @@
 -- Demand 2's own words leave nothing open: two benches of which `Leaves` holds are the same to the last byte and number. So it is
 -- document 01's statement, and not only the definition, that determines what a load that ran leaves.
-use mathlib.Core.Path.{_≡_, ap}
+use mathlib.Core.Path.{_≡_, refl, ap}
 use mathlib.Core.Bool.{Bool, true, false}
 use mathlib.Core.Logic.{⊎-elim}
 use Prim.Native.Nat.{ℕ, suc, _+_, _-_, _*_, _/_, _%_, _^_, _<_}
@@ -11,10 +11,12 @@ use lib.ListN.{getD}
 use lib.Seq.{ext-getD}
 use borrow.Author.Tests.{eqb-true, eqb-false, ltb-true, ltb-false, leb-true, leb-false}
 use Rattle.ground.proofs.Laws.{true-or-false, never, only-one, little-tells}
+use Rattle.ground.specs.Lists.{little}
 use Rattle.ground.specs.Sizes.{bytesOf}
 use Rattle.ground.specs.declared.Size.{Size}
 use Rattle.ground.specs.declared.Size.the-variants.{B8, B16, B32, B64}
 use Rattle.loads.specs.Insns.{Insn}
+use Rattle.memory.specs.Addresses.{wrap}
 use Rattle.memory.specs.Areas.{Area, Areas}
 use Rattle.memory.specs.Bytes.{lookOf}
 use Rattle.memory.specs.Said.{Of}
@@ -26,7 +28,7 @@ use Rattle.loads.specs.Plans.{planOf}
 use Rattle.loads.specs.Lanes.{governing, takes}
 use Rattle.loads.specs.Said.{m, L, N, Active, byteAt}
 use Rattle.loads.specs.Given.{Ready, AllReadable}
-use Rattle.loads.specs.Leaves.{Takes, laneIn, Extends, Contains, Adds, Leaves}
+use Rattle.loads.specs.Leaves.{Takes, laneIn, Extends, Contains, ElementValue, WrittenBack, Leaves}
 use Rattle.loads.specs.declared.Plan.{Plan}
 use Rattle.loads.proofs.Fields.{adds-back, back-adds}
 use Rattle.loads.proofs.Actives.{takes-there, there-takes, taken-active}
@@ -70,6 +72,13 @@ module _ (l : Lent) (w : ℕ) (b : Bench) (i : Insn) (ready : Ready l w b i) (al
       let v = ap byteOf (right-byte (areas l b) (ready .defined .accepted .taken) _ (c .1) (c .2) (c .3)) in
       (c .0, c .1, c .2, v, rw v (octets (c .0) (c .1) _))
 
+  value : (e : ℕ) → Active l i e → ElementValue l b i e (little (byte e) 0 (m i))
+  value e q = record { byte = byte e; contained = contains e q; value = refl }
+
+  -- the base, where it is written back
+  abbrev Back : ℕ → Type 0
+  Back = WrittenBack (b .scalars) i
+
   module _ (l₁ l₂ : Lent) (b₁ b₂ : Bench) (p : Leaves l b i l₁ b₁) (q : Leaves l b i l₂ b₂) where
     same-lane : (k : ℕ) → k < N l i → laneIn l (b₁ .vectors) (i .target) (L i) k ≡ laneIn l (b₂ .vectors) (i .target) (L i) k
     same-lane k h =
@@ -80,8 +89,8 @@ module _ (l : Lent) (w : ℕ) (b : Bench) (i : Insn) (ready : Ready l w b i) (al
         (λ t.
         let e = k % plan .elements in
         let u = there-takes l (b .scalars) (a .multiple) (a .least) i (i .shape) (fine .shape) long k h t in
-        let c = contains e (taken-active l (b .scalars) (a .multiple) (a .least) i (i .shape) k e h u) in
-        extended-once (i .element .signed) _ _ _ _ _ (p .lane k e h u (byte e) c) (q .lane k e h u (byte e) c))
+        let v = value e (taken-active l (b .scalars) (a .multiple) (a .least) i (i .shape) k e h u) in
+        extended-once (i .element .signed) _ _ _ _ _ (p .lane k e _ h u v) (q .lane k e _ h u v))
         (λ t.
         let none : (e : ℕ) → Takes l i k e → ⊥ = λ e u. never (takes-there l (b .scalars) (a .multiple) (a .least) i (i .shape) (fine .shape) long k e h u .0) t in
         only-one (p .zero k h none) (q .zero k h none))
@@ -119,12 +128,13 @@ module _ (l : Lent) (w : ℕ) (b : Bench) (i : Insn) (ready : Ready l w b i) (al
         ⊎-elim
         (λ t.
         let d = back-adds (l .settings .vl) (b .scalars) i (i .shape) t in
+        let v : Back (wrap (scalar (b .scalars) (i .base) + d .0)) = record { added = d .0; adds = d .1; sum = refl } in
         ⊎-elim
-        (λ u. let e = eqb-true k (i .base) u in rw e (only-one (p .base (d .0) (d .1)) (q .base (d .0) (d .1))))
+        (λ u. let e = eqb-true k (i .base) u in rw e (only-one (p .base _ v) (q .base _ v)))
         (λ u. let ne = eqb-false k (i .base) u in only-one (p .others k pc (λ a h e. ne e)) (q .others k pc (λ a h e. ne e)))
         (true-or-false (eqb k (i .base))))
         (λ t.
-        let kept : (a : ℕ) → Adds (b .scalars) i a → k ≡ i .base → ⊥ = λ a h e. never (adds-back (l .settings .vl) (b .scalars) i (i .shape) a h .0) t in
+        let kept : (v : ℕ) → Back v → k ≡ i .base → ⊥ = λ v h e. never (adds-back (l .settings .vl) (b .scalars) i (i .shape) (h .added) (h .adds) .0) t in
         only-one (p .others k pc kept) (q .others k pc kept))
         (true-or-false (plan .back))
 

@@ -18,6 +18,7 @@ pub mod Determined
 pub mod Agrees
 pub mod Unique
 pub mod Numbers
-pub mod Demands
-pub mod Cases
-pub mod Readings
+pub mod Promise
+pub mod Demand1
+pub mod Demand2
+pub mod Demand3

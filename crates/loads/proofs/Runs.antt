@@ -30,7 +30,7 @@ use Rattle.loads.specs.Lanes.{governing, asked, takes, elementAt}
 use Rattle.loads.specs.Outcomes.{Outcome, answersOf, extended, laneValue, benchAfter, outcomeOf}
 use Rattle.loads.specs.Steps.{stepOf}
 use Rattle.loads.specs.Said.{m, L, N, Active, byteAt, CanRead}
-use Rattle.loads.specs.Leaves.{Contains, Takes, laneIn, Leaves}
+use Rattle.loads.specs.Leaves.{Contains, ElementValue, Takes, laneIn, Leaves}
 use Rattle.loads.specs.Given.{Ready, AllReadable}
 use Rattle.loads.specs.declared.Plan.{Plan}
 use Rattle.loads.proofs.Fields.{adds-back, back-adds}
@@ -60,18 +60,22 @@ module _ (l : Lent) (w : ℕ) (b : Bench) (i : Insn) (ready : Ready l w b i) (al
   abbrev answer : ℕ → Reading
   answer = answersOf l b plan
 
-  -- an active element is read as the number of its bytes
-  read-as : (e : ℕ) → Active l i e → (v : ℕ → ℕ) → ((j : ℕ) → j < m i → Contains (areas l b) (byteAt l (b .scalars) i e j) (v j)) → answer e ≡ Value (little v 0 (m i))
-  read-as e q v h =
+  -- an active element is read as its value
+  read-as : (e v : ℕ) → Active l i e → ElementValue l b i e v → answer e ≡ Value v
+  read-as e v q h =
       let taken = ready .defined .accepted .taken in
       let look = lookOf (areas l b) in
       let lies : (j : ℕ) → plusOf (elementAt plan e) j ≡ byteAt l (b .scalars) i e j = λ j. byte-lies l (b .scalars) i e j q in
       answer-is l b taken i e q
-      ∙ value-exactly look (elementAt plan e) (m i) (below-all plan e) (little v 0 (m i)) .1 (
+      ∙ value-exactly look (elementAt plan e) (m i) (below-all plan e) v .1 (
         λ j k. rw (lies j) (can-read (areas l b) taken _ .1 (all e q j k)),
-        little-cong v (λ j. byteOf (look (plusOf (elementAt plan e) j))) 0 0 (m i)
-            (λ j k. rw (zero-add j, lies j) (sym (found (areas l b) taken _ (v j) (all e q j k) (h j k)))),
+        h .value ∙ little-cong (h .byte) (λ j. byteOf (look (plusOf (elementAt plan e) j))) 0 0 (m i)
+            (λ j k. rw (zero-add j, lies j) (sym (found (areas l b) taken _ (h .byte j) (all e q j k) (h .contained j k)))),
       )
+
+  -- .. which fits its size in memory
+  value-below : (e v : ℕ) → ElementValue l b i e v → v < 256 ^ m i
+  value-below e v h = rw (h .value) (little-below (h .byte) 0 (m i) (λ j g. rw zero-add (h .contained j g .4)))
 
   fine : InsnInRange i
   fine = in-range-of w i (ready .defined .reads)
@@ -106,18 +110,22 @@ module _ (l : Lent) (w : ℕ) (b : Bench) (i : Insn) (ready : Ready l w b i) (al
       let a = ready .defined .accepted in
       let base = fine .base in
       record {
-        lane = λ k e h t v c.
+        lane = λ k e v h t c.
             let q = taken-active l (b .scalars) (a .multiple) (a .least) i (i .shape) k e h t in
-            rw (lane-said k h, value-said k e _ h t (read-as e q v c)) (extends (m i) (L i) (little v 0 (m i)) (fine .narrower) (little-below v 0 (m i) (λ j g. rw zero-add (c j g .4))) (i .element .signed));
+            rw (lane-said k h, value-said k e v h t (read-as e v q c))
+            (extends (m i) (L i) v (fine .narrower) (value-below e v c) (i .element .signed));
         zero = λ k h none. rw (lane-said k h, nothing-said k h none) (zero-mod _);
         bytes = small answer l (b .vectors) plan (a .multiple) (a .vectors) in-file;
         below = kept-below answer l (b .vectors) plan (a .multiple) (a .vectors) in-file;
         above = kept-above answer l (b .vectors) plan (a .multiple) (a .vectors) in-file;
         vectors = kept-length answer l (b .vectors) plan (a .multiple) (a .vectors) in-file;
-        base = λ v d. let r = adds-back (l .settings .vl) (b .scalars) i (i .shape) v d in
-            written-back plan (b .scalars) (a .scalars) base (r .0) ∙ ap (λ (y : ℕ). wrap (scalar (b .scalars) (i .base) + y)) (r .1);
+        base = λ v d. let r = adds-back (l .settings .vl) (b .scalars) i (i .shape) (d .added) (d .adds) in
+            written-back plan (b .scalars) (a .scalars) base (r .0)
+            ∙ ap (λ (y : ℕ). wrap (scalar (b .scalars) (i .base) + y)) (r .1)
+            ∙ sym (d .sum);
         pc = counter plan (b .scalars) (a .scalars) base;
-        others = λ n pc h. kept-scalar plan (b .scalars) (a .scalars) base n pc (λ t e. let r = back-adds (l .settings .vl) (b .scalars) i (i .shape) t in h (r .0) (r .1) e);
+        others = λ n pc h. kept-scalar plan (b .scalars) (a .scalars) base n pc
+            (λ t e. let r = back-adds (l .settings .vl) (b .scalars) i (i .shape) t in h _ (record { added = r .0; adds = r .1; sum = refl }) e);
         scalars = scalars-length plan (b .scalars) (a .scalars) base;
         ram = refl;
         lent = refl;

@@ -20,9 +20,15 @@ pub record Same (l : Lent) (b : Bench) (l′ : Lent) (b′ : Bench) : Type 0 whe
   pub vectors : b .vectors ≡ b′ .vectors
   pub scalars : b .scalars ≡ b′ .scalars
 
--- address a is a byte of an active element of the load that the word is; where the step refuses before it reads, there is none
-abbrev pub Touched : Lent → ℕ → Bench → ℕ → Type 0
-Touched l w b a = (i : Insn) × Ready l w b i × (e : ℕ) × Active l i e × (k : ℕ) × (k < m i) × (a ≡ byteAt l (b .scalars) i e k)
+-- a byte of an active element of the load that the word is lies at address a; where the step refuses before it reads, there is none
+pub record Touched (l : Lent) (w : ℕ) (b : Bench) (a : ℕ) : Type 0 where
+  pub load : Insn
+  pub ready : Ready l w b load
+  pub element : ℕ
+  pub active : Active l load element
+  pub byte : ℕ
+  pub within : byte < m load
+  pub lies : a ≡ byteAt l (b .scalars) load element byte
 
 -- "the same read right on each page that holds a byte of an active element"
 abbrev pub SameRights : Lent → ℕ → Bench → Lent → Bench → Type 0

@@ -10,8 +10,8 @@ use Rattle.memory.specs.Addresses.{wrap}
 use Rattle.memory.specs.Areas.{Area, Areas}
 use Rattle.memory.specs.Said.{Holds, Of}
 use Rattle.loads.specs.Benches.{Lent, Bench, areas}
-use Rattle.loads.specs.Terms.{scalar, blockBytes}
-use Rattle.loads.specs.Said.{m, L, N, K, LaneActive, byteAt}
+use Rattle.loads.specs.Terms.{scalar}
+use Rattle.loads.specs.Said.{m, L, N, K, copies, LaneActive, byteAt}
 
 -- lane k of the destination takes element e: in a block load element k mod K, where that one of the block's own lanes is active
 abbrev pub TakesAs : Shape → Lent → Insn → ℕ → ℕ → Type 0
@@ -19,7 +19,7 @@ TakesAs (Replicate q back) l i k e = (e ≡ 0) × (k * L i < 8 * 2 ^ q)
 TakesAs (ByElement imm6) l i k e = (e ≡ 0) × LaneActive l i k
 TakesAs (Contiguous offset) l i k e = (e ≡ k) × LaneActive l i k
 TakesAs (Block wide offset) l i k e =
-    (e ≡ k % K wide i) × (k / K wide i < l .settings .vl / (8 * blockBytes wide)) × LaneActive l i (k % K wide i)
+    (e ≡ k % K wide i) × (k / K wide i < copies l wide) × LaneActive l i (k % K wide i)
 
 abbrev pub Takes : Lent → Insn → ℕ → ℕ → Type 0
 Takes l i k e = TakesAs (i .shape) l i k e
@@ -37,6 +37,12 @@ Extends true bits lane v x = (v < 2 ^ (bits - 1) → x ≡ v) × (2 ^ (bits - 1)
 abbrev pub Contains : Areas → ℕ → ℕ → Type 0
 Contains a x v = (r : Area) × Of a r × Holds r x × (v ≡ getD (r .bytes) (x - r .start) 0) × (v < 256)
 
+-- v is the value of element e: the number that its bytes in memory make, lowest byte first
+pub record ElementValue (l : Lent) (b : Bench) (i : Insn) (e v : ℕ) : Type 0 where
+  pub byte : ℕ → ℕ
+  pub contained : (j : ℕ) → j < m i → Contains (areas l b) (byteAt l (b .scalars) i e j) (byte j)
+  pub value : v ≡ little byte 0 (m i)
+
 -- "Post-index adds the read's size when Rm = 31, else Xm as it was before the step"
 pub data AddsAs (x : List ℕ) (i : Insn) : Shape → ℕ → Type 0 where
   size : {q r : ℕ} → r ≡ 31 → AddsAs x i (Replicate q (Post r)) (m i)
@@ -45,18 +51,25 @@ pub data AddsAs (x : List ℕ) (i : Insn) : Shape → ℕ → Type 0 where
 abbrev pub Adds : List ℕ → Insn → ℕ → Type 0
 Adds x i a = AddsAs x i (i .shape) a
 
+-- the base is written back as v: what it was and what is added, modulo 2^64
+pub record WrittenBack (x : List ℕ) (i : Insn) (v : ℕ) : Type 0 where
+  pub added : ℕ
+  pub adds : Adds x i added
+  pub sum : v ≡ wrap (scalar x (i .base) + added)
+
 -- what a load that ran leaves, and that it leaves all else as it was
 pub record Leaves (l : Lent) (b : Bench) (i : Insn) (l′ : Lent) (b′ : Bench) : Type 0 where
-  pub lane : (k e : ℕ) → k < N l i → Takes l i k e → (v : ℕ → ℕ) → ((j : ℕ) → j < m i → Contains (areas l b) (byteAt l (b .scalars) i e j) (v j))
-      → Extends (i .element .signed) (8 * m i) (8 * L i) (little v 0 (m i)) (laneIn l (b′ .vectors) (i .target) (L i) k)
+  pub lane : (k e v : ℕ) → k < N l i → Takes l i k e → ElementValue l b i e v
+      → Extends (i .element .signed) (8 * m i) (8 * L i) v (laneIn l (b′ .vectors) (i .target) (L i) k)
   pub zero : (k : ℕ) → k < N l i → ((e : ℕ) → Takes l i k e → ⊥) → laneIn l (b′ .vectors) (i .target) (L i) k ≡ 0
   pub bytes : (j : ℕ) → j < l .settings .vl / 8 → getD (b′ .vectors) (i .target * (l .settings .vl / 8) + j) 0 < 256
   pub below : (j : ℕ) → j < i .target * (l .settings .vl / 8) → getD (b′ .vectors) j 0 ≡ getD (b .vectors) j 0
   pub above : (j : ℕ) → suc (i .target) * (l .settings .vl / 8) ≤ j → getD (b′ .vectors) j 0 ≡ getD (b .vectors) j 0
   pub vectors : length (b′ .vectors) ≡ length (b .vectors)
-  pub base : (a : ℕ) → Adds (b .scalars) i a → scalar (b′ .scalars) (i .base) ≡ wrap (scalar (b .scalars) (i .base) + a)
+  pub base : (v : ℕ) → WrittenBack (b .scalars) i v → scalar (b′ .scalars) (i .base) ≡ v
   pub pc : scalar (b′ .scalars) 32 ≡ wrap (scalar (b .scalars) 32 + 4)
-  pub others : (n : ℕ) → (n ≡ 32 → ⊥) → ((a : ℕ) → Adds (b .scalars) i a → n ≡ i .base → ⊥) → scalar (b′ .scalars) n ≡ scalar (b .scalars) n
+  pub others : (n : ℕ) → (n ≡ 32 → ⊥) → ((v : ℕ) → WrittenBack (b .scalars) i v → n ≡ i .base → ⊥)
+      → scalar (b′ .scalars) n ≡ scalar (b .scalars) n
   pub scalars : length (b′ .scalars) ≡ length (b .scalars)
   pub ram : b′ .ram ≡ b .ram
   pub lent : l′ ≡ l

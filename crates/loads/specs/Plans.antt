@@ -72,8 +72,9 @@ spreadOf vl x i (Contiguous offset) =
     spread (startOf x (i .base) (i .element .memory) (n * bytesOf (i .element .memory)) offset) n n ElementBit n
 -- LD1RQ and LD1RO consult the block's own lanes
 spreadOf vl x i (Block wide offset) =
-    let k = blockBytes wide / bytesOf (i .element .lane) in
-    spread (startOf x (i .base) (i .element .memory) (blockBytes wide) offset) k (vl / (8 * blockBytes wide) * k) ElementBit k
+    let K = blockBytes wide / bytesOf (i .element .lane) in
+    let copies = vl / (8 * blockBytes wide) in
+    spread (startOf x (i .base) (i .element .memory) (blockBytes wide) offset) K (copies * K) ElementBit K
 
 -- a plan: what its instruction has, and what its shape decides
 abbrev pub planWith : Insn → Spread → Plan

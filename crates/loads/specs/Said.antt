@@ -39,6 +39,10 @@ N l i = l .settings .vl / (8 * L i)
 abbrev pub K : Bool → Insn → ℕ
 K wide i = blockBytes wide / L i
 
+-- "The block is repeated; bytes left over at the end are zero": so many whole blocks are in a register
+abbrev pub copies : Lent → Bool → ℕ
+copies l wide = l .settings .vl / (8 * blockBytes wide)
+
 -- bit n of the governing predicate is 1: register g starts at byte g × VL/64 of the file
 abbrev pub BitSet : Lent → Governing → ℕ → Type 0
 BitSet l None n = ⊥

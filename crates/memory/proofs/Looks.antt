@@ -12,7 +12,7 @@ use Rattle.ground.proofs.Laws.{true-or-false}
 use Rattle.memory.specs.declared.Fault.the-variants.{Nowhere, Denied}
 use Rattle.memory.specs.declared.Cell.{Cell}
 use Rattle.memory.specs.declared.Cell.the-variants.{Byte, Bad}
-use Rattle.memory.specs.Areas.{Area, Areas, holds, placeOf}
+use Rattle.memory.specs.Areas.{pageBytes, Area, Areas, holds, placeOf}
 use Rattle.memory.specs.Bytes.{judged, lookOf}
 use Rattle.memory.specs.Said.{Holds, Right, Taken, Of, in-flash, in-ram}
 use Rattle.memory.proofs.Places.{holds-exactly, holds-not}
@@ -35,7 +35,7 @@ judged-denied r a h = rw (ne-eqb _ _ h)
 
 right-or-not : (r : Area) (a : ℕ) → Right r a ⊎ (Right r a → ⊥)
 right-or-not r a =
-    let x = getD (r .rights) ((a - r .start) / 4096) 0 % 2 in
+    let x = getD (r .rights) ((a - r .start) / pageBytes) 0 % 2 in
     ⊎-elim (λ e. inl (eqb-true x 1 e)) (λ e. inr (eqb-false x 1 e)) (true-or-false (eqb x 1))
 
 module _ (m : Areas) (a : ℕ) where

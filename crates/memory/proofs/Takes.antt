@@ -9,8 +9,12 @@ use lib.Dec.{ltb, leb, eqb}
 use lib.ListN.{length}
 use borrow.Author.Tests.{ltb-true, ltb-false, leb-true, leb-false, le-leb, eqb-true, eqb-false, eq-eqb}
 use Rattle.ground.proofs.Laws.{all-of, all-hold, true-or-false, or-cases, never}
-use Rattle.memory.specs.Areas.{Area, Areas, endOf, areaTests, areaTaken, apart, areasTaken}
+use Rattle.memory.specs.Areas.{areaLimit, pageBytes, Area, Areas, endOf, areaTests, areaTaken, apart, areasTaken}
 use Rattle.memory.specs.Said.{Holds, AreaTaken, Taken}
+
+-- document 01's numbers, which definition, statement and code take from one place: "0 to 65,536 bytes each", "4,096-byte page"
+pub numbers-said : (areaLimit ≡ 65536) × (pageBytes ≡ 4096)
+numbers-said = (refl, refl)
 
 -- one area by itself
 module _ (r : Area) where
@@ -34,7 +38,7 @@ module _ (r : Area) where
   )
 
 -- an address that a taken area holds has a rights byte
-pub rights-there : (r : Area) → AreaTaken r → (a : ℕ) → Holds r a → (a - r .start) / 4096 < length (r .rights)
+pub rights-there : (r : Area) → AreaTaken r → (a : ℕ) → Holds r a → (a - r .start) / pageBytes < length (r .rights)
 rights-there r t a h = let e = t .reached in omega arith
 
 -- ---- two areas, of fn bytes from f on and of rn bytes from r on

@@ -9,7 +9,18 @@ use Rattle.memory.specs.declared.Map.{Map}
 use Rattle.memory.specs.declared.Place.{Place}
 use Rattle.memory.specs.declared.Place.the-variants.{Flash, Ram, Nowhere}
 
--- a start, the bytes from there on, and a rights byte for each page of 4,096 bytes begun
+-- "0 to 65,536 bytes each": the most bytes of an area
+abbrev pub areaLimit : ℕ
+areaLimit = 65536
+
+-- "one rights byte per 4,096-byte page begun": the bytes of a page, and how many pages n bytes begin
+abbrev pub pageBytes : ℕ
+pageBytes = 4096
+
+abbrev pub pagesBegun : ℕ → ℕ
+pagesBegun n = (n + pageBytes - 1) / pageBytes
+
+-- a start, the bytes from there on, and a rights byte for each page begun
 pub record Area : Type 0 where
   pub start : ℕ
   pub bytes : List ℕ
@@ -34,9 +45,9 @@ endOf start n = start + n
 -- an area of n bytes with r rights bytes: its limit, rights, start and end
 abbrev pub areaTests : ℕ → ℕ → ℕ → List Bool
 areaTests start n r =
-    leb n 65536
-    ∷ eqb r ((n + 4095) / 4096)
-    ∷ eqb (start % 4096) 0
+    leb n areaLimit
+    ∷ eqb r (pagesBegun n)
+    ∷ eqb (start % pageBytes) 0
     ∷ leb (endOf start n) (2 ^ 64)
     ∷ []
 

@@ -5,7 +5,7 @@ use mathlib.Core.List.{List}
 use lib.Dec.{eqb}
 use lib.ListN.{getD}
 use Rattle.ground.specs.Choices.{if_then_else_}
-use Rattle.memory.specs.Areas.{Areas, placeIn}
+use Rattle.memory.specs.Areas.{pageBytes, Areas, placeIn}
 use Rattle.memory.specs.declared.Place.{Place}
 use Rattle.memory.specs.declared.Place.the-variants as P
 use Rattle.memory.specs.declared.Fault.the-variants.{Nowhere, Denied}
@@ -14,7 +14,7 @@ use Rattle.memory.specs.declared.Cell.the-variants.{Byte, Bad}
 
 -- the rights byte of the page that an area's byte k lies in; bit 0 is the read right, "other bits are not looked at"
 abbrev pub readRight : List ℕ → ℕ → Bool
-readRight rights k = eqb (getD rights (k / 4096) 0 % 2) 1
+readRight rights k = eqb (getD rights (k / pageBytes) 0 % 2) 1
 
 -- what a load may do at byte k of an area
 unfoldable pub judged : List ℕ → List ℕ → ℕ → Cell

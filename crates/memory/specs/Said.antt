@@ -2,7 +2,7 @@
 use mathlib.Core.Path.{_≡_}
 use Prim.Native.Nat.{ℕ, _+_, _-_, _*_, _/_, _%_, _^_, _≤_, _<_}
 use lib.ListN.{length, getD}
-use Rattle.memory.specs.Areas.{Area, Areas}
+use Rattle.memory.specs.Areas.{areaLimit, pageBytes, Area, Areas}
 
 -- an area has a byte at an address
 abbrev pub Holds : Area → ℕ → Type 0
@@ -10,15 +10,15 @@ Holds r a = (r .start ≤ a) × (a < r .start + length (r .bytes))
 
 -- bit 0 of the rights byte of the address's page is 1
 abbrev pub Right : Area → ℕ → Type 0
-Right r a = getD (r .rights) ((a - r .start) / 4096) 0 % 2 ≡ 1
+Right r a = getD (r .rights) ((a - r .start) / pageBytes) 0 % 2 ≡ 1
 
 -- "0 to 65,536 bytes each, and one rights byte per 4,096-byte page begun", the start a multiple of 4,096, the end at most 2^64:
 -- the pages of the rights bytes reach the area's last byte, and without the last of them they do not
 pub record AreaTaken (r : Area) : Type 0 where
-  pub limit : length (r .bytes) ≤ 65536
-  pub reached : length (r .bytes) ≤ 4096 * length (r .rights)
-  pub begun : 4096 * length (r .rights) < length (r .bytes) + 4096
-  pub aligned : r .start % 4096 ≡ 0
+  pub limit : length (r .bytes) ≤ areaLimit
+  pub reached : length (r .bytes) ≤ pageBytes * length (r .rights)
+  pub begun : pageBytes * length (r .rights) < length (r .bytes) + pageBytes
+  pub aligned : r .start % pageBytes ≡ 0
   pub ends : r .start + length (r .bytes) ≤ 2 ^ 64
 
 pub record Taken (m : Areas) : Type 0 where

@@ -11,6 +11,11 @@ ghost use Rattle.memory.specs.Bytes.{judged, lookOf};
 ghost use Rattle.memory.specs.Elements.{readingOf};
 ghost use Rattle.memory.specs.Windows.{shownPlace, WindowPromise};
 
+// The most bytes of an area, and the bytes of a page.
+pub const AREA_LIMIT: usize = 65536;
+
+pub const PAGE_BYTES: usize = 4096;
+
 // An address, so that it is mixed with no lane number and no offset. Its arithmetic is modulo 2^64.
 pub struct Address(pub u64);
 
@@ -82,13 +87,13 @@ fn ends(start: Address, n: usize) -> bool
 fn area_taken(start: Address, n: usize, rights: usize) -> bool
     ensures { λ r. ⌜ r ≡ areaTaken (start .0) n rights ⌝ }
 {
-    if 65536 < n {
+    if AREA_LIMIT < n {
         return false;
     }
-    if rights != (n + 4095) / 4096 {
+    if rights != (n + PAGE_BYTES - 1) / PAGE_BYTES {
         return false;
     }
-    if start.0 % 4096 != 0 {
+    if start.0 % (PAGE_BYTES as u64) != 0 {
         return false;
     }
     ends(start, n)
@@ -162,7 +167,7 @@ fn judge(bytes: &[u8], rights: &[u8], k: usize) -> Cell
     requires { ⌜ k < length (now bytes) ⌝ }
     ensures { λ r. ⌜ r ≡ judged (now (bytes .entry)) (now (rights .entry)) k ⌝ }
 {
-    let page = k / 4096;
+    let page = k / PAGE_BYTES;
     if page < rights.len() {
         if rights[page] % 2 == 1 {
             return Cell::Byte(bytes[k]);

@@ -12,7 +12,11 @@ area-taken-spec =
     tie.close (tie.spec
     (λ c. rw (lt-leb _ _ (c .if1 .taken)))
     (λ c. search needs)
+    (λ c. search needs)
     (λ c. rw (le-leb _ _ (c .before .if1 .left), ne-eqb _ _ (c .if2 .taken)))
+    (λ c. search needs)
     (λ c. rw (le-leb _ _ (c .before .before .before .if1 .left), eq-eqb _ _ (c .before .before .if2 .left), ne-eqb _ _ (c .if3 .taken)))
     (λ c κs. tt)
-    (λ c. c .ends .ensures ∙ rw (le-leb _ _ (c .before .before .before .before .if1 .left), eq-eqb _ _ (c .before .before .before .if2 .left), eq-eqb _ _ (c .before .if3 .left))))
+    (λ c.
+    let t = c .before .before .before in
+    c .ends .ensures ∙ rw (le-leb _ _ (t .before .if1 .left), eq-eqb _ _ (t .if2 .left), eq-eqb _ _ (c .before .if3 .left))))

@@ -11,13 +11,13 @@ use Rattle.memory.specs.Addresses.{movedOf}
 use Rattle.memory.specs.Areas.{areaTaken, apart, areasTaken, holds, placeOf}
 use Rattle.memory.specs.Bytes.{judged, lookOf}
 use Rattle.memory.specs.Elements.{readingOf}
 use Rattle.loads.specs.Benches.{accepted}
 use Rattle.loads.specs.Terms.{signed4}
 use Rattle.loads.specs.Plans.{spreadOf}
 use Rattle.loads.specs.Lanes.{governing, bitOf, laneActive, wanted, asked, takes, checksStack, elementAt}
 use Rattle.loads.specs.Outcomes.{answersIn, surveyOf, extended, laneValue, registerByte, registerOf, baseAfter, scalarsAfter, benchAfter, outcomeOf}
 use Rattle.loads.specs.Steps.{stackFails, refusals, plannedLoad, planned, prepared, stepOf}
-use Rattle.loads.proofs.Cases.{Case, allRight, every, none, only, _≔_, sp, pc, zone, empty, page, on, sveOff, simdOff, f64mmAndSveOff, setUp, ran, faults, refuses, rising, eight, zeros, nines, copies, plain}
+use Rattle.readings.proofs.Cases.{Case, allRight, every, none, only, _≔_, sp, pc, zone, empty, page, on, sveOff, simdOff, f64mmAndSveOff, setUp, ran, faults, refuses, rising, eight, zeros, nines, copies, plain}
 
 -- the starred rows, in the order of the scope of work
 abbrev starred : List Case
