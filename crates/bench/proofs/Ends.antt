@@ -20,7 +20,7 @@ use Rattle.loads.specs.Outcomes.{answersOf, scalarsAfter, benchAfter, outcomeOf
 use Rattle.loads.specs.Steps.{stackFails, planned, prepared, stepOf, StepPromise}
 use Rattle.words.specs.declared.Governing.{Governing}
 use Rattle.words.specs.declared.Governing.the-variants.{None, By}
-use Rattle.words.proofs.Ranges.{Governed}
+use Rattle.words.specs.Ranges.{Governed}
 use Rattle.loads.specs.Sounds.{GovernedIn}
 use Rattle.loads.specs.declared.Rule.{Rule}
 use Rattle.loads.specs.declared.Rule.the-variants.{Always, LaneBit, ElementBit}

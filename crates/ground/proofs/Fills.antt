@@ -81,15 +81,19 @@ unfilled f w xs = record { size = refl; so-far = λ i l. let z = zero-mul w in a
 
 module _ {f : ℕ → ℕ} {w n l : ℕ} {xs : List ℕ} (s : Filled f w n xs l) where
   -- one more part is put in
-  pub one-filled : (ys : List ℕ) → length ys ≡ w → l * w + w ≤ n → ((j : ℕ) → j < w → getD ys j 0 ≡ f (l * w + j)) → Filled f w n (replaced xs (l * w) w ys) (l + 1)
+  pub one-filled : (ys : List ℕ) → length ys ≡ w → l * w + w ≤ n → ((j : ℕ) → j < w → getD ys j 0 ≡ f (l * w + j))
+      → Filled f w n (replaced xs (l * w) w ys) (l + 1)
   one-filled ys size fits h =
       record {
         size = length-replaced xs (l * w) w ys size room ∙ s .size;
-        so-far = λ i lt. ⊎-elim (λ t. replaced-below xs (l * w) w ys size room i 0 (ltb-true i (l * w) t) ∙ s .so-far i (ltb-true i (l * w) t)) (λ t. above i lt (ltb-false i (l * w) t)) (true-or-false (ltb i (l * w)));
+        so-far = λ i lt. ⊎-elim (λ t. below i (ltb-true i (l * w) t)) (λ t. above i lt (ltb-false i (l * w) t)) (true-or-false (ltb i (l * w)));
       }
     where
       room : l * w + w ≤ length xs
       room = rw (s .size) fits
+
+      below : (i : ℕ) → i < l * w → getD (replaced xs (l * w) w ys) i 0 ≡ f i
+      below i k = replaced-below xs (l * w) w ys size room i 0 k ∙ s .so-far i k
 
       above : (i : ℕ) → i < (l + 1) * w → l * w ≤ i → getD (replaced xs (l * w) w ys) i 0 ≡ f i
       above i lt k =

@@ -4,7 +4,8 @@ use mathlib.Core.Path.{_≡_, refl, sym, _∙_, ap}
 use mathlib.Core.Bool.{Bool, true, false, _&&_, _||_}
 use mathlib.Core.List.{List, [], _∷_, _++_}
 use native.Mathlib.Omega.{arith}
-use native.Mathlib.Nat.{add-assoc, mod-one, mod-lt, mod-eq-of-lt, pow-suc, mul-suc, div-one, div-div-eq-div-mul, add-zero, zero-add, le-of-suc-le-suc, not-suc-le-zero}
+use native.Mathlib.Nat.{add-assoc, mod-one, mod-lt, mod-eq-of-lt, pow-suc, mul-suc, div-one, div-div-eq-div-mul, add-zero, zero-add}
+use native.Mathlib.Nat.{le-of-suc-le-suc, not-suc-le-zero}
 use native.Mathlib.Numerals.{add-one, one-add}
 use lib.Arith.{mod-mul}
 use lib.Pow.{pow-add}
@@ -221,7 +222,8 @@ little-tells f g i k (suc n) p q e (suc j) h =
     let v = rw add-zero at (q 0 (omega arith)) in
     let rest : little f (i + 1) n ≡ little g (k + 1) n = omega (arith, u, v, e) in
     rw (← one-add j, ← add-assoc, ← add-assoc)
-    (little-tells f g (i + 1) (k + 1) n (λ m l. rw (add-assoc, one-add) (p (suc m) (omega arith))) (λ m l. rw (add-assoc, one-add) (q (suc m) (omega arith))) rest j (omega arith))
+    (little-tells f g (i + 1) (k + 1) n
+    (λ m l. rw (add-assoc, one-add) (p (suc m) (omega arith))) (λ m l. rw (add-assoc, one-add) (q (suc m) (omega arith))) rest j (omega arith))
 
 -- .. and the number of one digit more has it on top
 pub little-more : (f : ℕ → ℕ) (i n : ℕ) → little f i (suc n) ≡ little f i n + f (i + n) * 256 ^ n

@@ -2,3 +2,4 @@
 pub mod Choices
 pub mod Sizes
 pub mod Lists
+pub mod Pieces

@@ -5,7 +5,7 @@ ghost use lib.ListN.{length, getD};
 ghost use Rattle.ground.specs.Lists.{listed, bytesAt};
 
 // A u64 has eight bytes.
-fn few(n: usize) -> usize
+fn at_most_eight(n: usize) -> usize
     ensures { λ r. ⌜ r ≡ min n 8 ⌝ }
 {
     if n < 8 { n } else { 8 }
@@ -28,7 +28,7 @@ pub fn number(s: &[u8], at: usize, n: usize) -> u64
     ensures { λ r. ⌜ r ≡ bytesAt (now (s .entry)) at (min n 8) ⌝ }
     ensures { λ r. ⌜ r < 2 ^ (8 * min n 8) ⌝ }
 {
-    let end = few(n);
+    let end = at_most_eight(n);
     let mut value: u64 = 0;
     let mut i: usize = 0;
     while i < end {

@@ -18,7 +18,7 @@ use Rattle.ground.specs.Sizes.{bytesOf}
 use Rattle.ground.specs.declared.Size.{Size}
 use Rattle.ground.specs.declared.Size.the-variants.{B8, B16, B32, B64}
 use Rattle.loads.specs.Insns.{Insn, Shape, Replicate, ByElement, Contiguous, Block, Governing, None, By}
-use Rattle.words.proofs.Ranges.{ShapeInRange}
+use Rattle.words.specs.Ranges.{ShapeInRange}
 use Rattle.loads.specs.Benches.{Lent}
 use Rattle.loads.specs.Terms.{blockBytes}
 use Rattle.loads.specs.Plans.{spreadOf, planWith}

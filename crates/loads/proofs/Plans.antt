@@ -10,7 +10,7 @@ use Rattle.ground.specs.Sizes.{bytesOf}
 use Rattle.ground.specs.declared.Size.{Size}
 use Rattle.ground.specs.declared.Size.the-variants.{B8, B16, B32, B64}
 use Rattle.loads.specs.Insns.{Insn, Shape, Replicate, ByElement, Contiguous, Block}
-use Rattle.words.proofs.Ranges.{ShapeInRange, InsnInRange}
+use Rattle.words.specs.Ranges.{ShapeInRange, InsnInRange}
 use Rattle.loads.specs.Terms.{blockBytes}
 use Rattle.loads.specs.Plans.{spreadOf, planWith}
 use Rattle.loads.specs.Sounds.{Sound}

@@ -10,7 +10,8 @@ use Rattle.ground.specs.Lists.{little}
 use Rattle.ground.proofs.Laws.{off, little-cong, little-below}
 use Rattle.words.specs.Families.{readOf}
 use Rattle.loads.specs.Insns.{Insn, Is}
-use Rattle.words.proofs.Ranges.{InsnInRange, InRange, in-range}
+use Rattle.words.specs.Ranges.{InsnInRange, InRange}
+use Rattle.words.proofs.Ranges.{in-range}
 use Rattle.memory.specs.Addresses.{wrap, plusOf}
 use Rattle.memory.specs.Areas.{Areas}
 use Rattle.memory.specs.Bytes.{readRight, judged, lookOf}

@@ -2,7 +2,7 @@
 use Prim.Native.Nat.{_≤_, _<_}
 use mathlib.Core.Path.{_≡_}
 use Rattle.ground.specs.Sizes.{bytesOf}
-use Rattle.words.proofs.Ranges.{Governed}
+use Rattle.words.specs.Ranges.{Governed}
 use Rattle.loads.specs.Insns.{Governing, None}
 use Rattle.loads.specs.declared.Rule.{Rule}
 use Rattle.loads.specs.declared.Rule.the-variants.{Always, LaneBit, ElementBit}

@@ -9,7 +9,8 @@ use Rattle.words.specs.Families.{readOf}
 use Rattle.words.specs.declared.Insn.{Insn}
 use Rattle.words.specs.declared.Decoded.{Decoded}
 use Rattle.words.specs.declared.Decoded.the-variants.{Outside, Undefined, Is}
-use Rattle.words.proofs.Ranges.{InsnInRange, InRange, in-range}
+use Rattle.words.specs.Ranges.{InsnInRange, InRange}
+use Rattle.words.proofs.Ranges.{in-range}
 use Rattle.loads.specs.Benches.{lengthAllowed}
 use Rattle.loads.specs.Answers.{numberOf}
 use Rattle.loads.specs.Plans.{planOf}

@@ -15,7 +15,7 @@ use Rattle.words.specs.declared.Dtype.{Dtype}
 use Rattle.words.specs.declared.Insn.{Insn}
 use Rattle.words.specs.declared.Shape.{Shape}
 use Rattle.words.specs.declared.Shape.the-variants.{Replicate, ByElement, Contiguous, Block}
-use Rattle.words.proofs.Ranges.{ShapeInRange}
+use Rattle.words.specs.Ranges.{ShapeInRange}
 use Rattle.loads.specs.Terms.{blockBytes}
 use Rattle.loads.specs.Plans.{lanesIn, spreadOf, planWith}
 use Rattle.loads.specs.Steps.{isWide, planned}

@@ -10,7 +10,7 @@ use words::Shape;
 ghost use mathlib.Core.Path.{_≡_};
 ghost use Prim.Native.Nat.{_*_, _≤_, _<_};
 ghost use Rattle.ground.specs.Sizes.{bytesOf};
-ghost use Rattle.words.proofs.Ranges.{OffsetInRange, InsnInRange};
+ghost use Rattle.words.specs.Ranges.{OffsetInRange, InsnInRange};
 ghost use Rattle.words.specs.declared.Shape.the-variants.{ByElement, Contiguous, Block};
 ghost use Rattle.memory.specs.Addresses.{wrap};
 ghost use Rattle.loads.specs.Terms as Terms;

@@ -10,7 +10,7 @@ use words::Shape;
 ghost use mathlib.Core.Path.{_≡_};
 ghost use mathlib.Core.Bool.{not};
 ghost use Prim.Native.Nat.{_≤_};
-ghost use Rattle.words.proofs.Ranges.{InsnInRange};
+ghost use Rattle.words.specs.Ranges.{InsnInRange};
 ghost use Rattle.loads.specs.Steps.{isWide, switchedOn, plannedLoad, planned};
 ghost use Rattle.plans.specs.Prepares.{plannedFor};
 

@@ -12,11 +12,11 @@ use lib.ListN.{length, getD}
 use borrow.Author.Tests.{eqb-true, leb-true, eq-eqb, not-true}
 use Rattle.ground.specs.Choices.{allOf}
 use Rattle.ground.specs.Lists.{anyBelow}
-use Rattle.ground.proofs.Laws.{never, off, or-cases, and-left, and-right, all-of, all, any-at}
-use Rattle.words.specs.Fields.{bits}
+use Rattle.ground.specs.Pieces.{bits}
+use Rattle.ground.proofs.Laws.{never, off, or-cases, and-left, and-right, both, all-of, all, any-at}
+use Rattle.ground.proofs.Pieces.{halves}
 use Rattle.words.specs.Families.{Fixed, fixed, tests, fits, FamilyRow, _⇨_, families, readBy, readOf}
 use Rattle.words.specs.Insns.{Outside, Undefined}
-use Rattle.words.proofs.Pieces.{halves}
 
 -- ---- Two rows that fix a bit to different values
 
@@ -154,9 +154,15 @@ pub one-row : (w j k : ℕ) → FitsAt families w j → FitsAt families w k → 
 one-row w j k p q = one-place w families families-apart j k p q
 
 -- a word that fits a row is what the row says
-pub row-reads : (w k : ℕ) → FitsAt families w k → readOf w ≡ rowAt families k .means w
+pub row-reads : (w k : ℕ) → k < length families → fits w (rowAt families k .bits) ≡ true → readOf w ≡ rowAt families k .means w
 unfolding readOf
-row-reads w k h = place-reads w families families-apart k h
+row-reads w k l t = place-reads w families families-apart k (record { there = l; fitting = t })
+
+-- a word with bits that every row fixes otherwise is outside
+pub clashing-outside : (fs : List Fixed) → all (clash (fs ⇨ (λ w. Outside))) families ≡ true → (w : ℕ) → fits w fs ≡ true → readOf w ≡ Outside
+unfolding readOf
+clashing-outside fs c w t =
+    ⊎-elim (λ h. absurd (first-only w (fs ⇨ (λ w. Outside)) families (both _ _ c families-apart) (h .0) (h .1) t)) (λ n. n .1) (found w families)
 
 -- A table with all its rows, in any order and with whichever others that clash, reads every word that was not outside as before;
 pub settled : (rows : List FamilyRow) → apart rows ≡ true → Among families rows → (w : ℕ) → (readOf w ≡ Outside → ⊥) → readBy rows w ≡ readOf w
@@ -184,7 +190,9 @@ pub any-order : (rows : List FamilyRow) → Among families rows → Among rows f
 unfolding readOf
 any-order rows m n w =
     ⊎-elim
-    (λ h. let r = among w rows families n (h .0) (h .1) in h .2 ∙ ap (λ (s : FamilyRow). s .means w) (sym (r .2)) ∙ sym (row-reads w (r .0) (r .1)))
+    (λ h.
+    let r = among w rows families n (h .0) (h .1) in
+    h .2 ∙ ap (λ (s : FamilyRow). s .means w) (sym (r .2)) ∙ sym (row-reads w (r .0) (r .1 .there) (r .1 .fitting)))
     (λ none.
     ⊎-elim
     (λ h. let r = among w families rows m (h .0) (h .1) in absurd (none .0 (r .0) (r .1)))
@@ -211,4 +219,5 @@ pub longer-takes : readOf 0x85C00000 ≡ Outside
 longer-takes =
     let here : FitsAt longer 0x85C00000 0 = record { there = omega arith; fitting = refl } in
     added longer longer-apart longer-has 0x85C00000 0 here
-    (λ k h e. first-only 0x85C00000 another families longer-apart k (record { there = h; fitting = sym (ap (λ (r : FamilyRow). fits 0x85C00000 (r .bits)) e) }) refl)
+    (λ k h e. let same = ap (λ (r : FamilyRow). fits 0x85C00000 (r .bits)) e in
+    first-only 0x85C00000 another families longer-apart k (record { there = h; fitting = sym same }) refl)

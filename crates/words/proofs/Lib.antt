@@ -2,7 +2,6 @@
 pub mod Ranges
 pub mod Rule
 pub mod Unique
-pub mod Pieces
 pub mod Apart
 pub mod Layouts
 pub mod Written

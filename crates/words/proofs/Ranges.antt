@@ -1,61 +1,24 @@
 -- Every field of a load that was read is in range, so that a caller may index its registers and tables by them.
-use Prim.Native.Nat.{ℕ, _+_, _*_, _≤_, _<_}
-use mathlib.Core.Path.{_≡_, refl}
+use Prim.Native.Nat.{ℕ, _+_, _*_, _≤_}
+use mathlib.Core.Path.{refl}
 use mathlib.Core.Bool.{Bool, _||_}
 use native.Mathlib.Omega.{arith}
 use lib.Dec.{eqb}
 use borrow.Author.Tests.{eqb-false}
 use Rattle.ground.proofs.Laws.{if-cases, first-each}
 use Rattle.ground.specs.Sizes.{bytesOf, sizeOf}
-use Rattle.words.specs.Fields.{bits}
-use Rattle.words.specs.Dtypes.{plainOf, dtypeOf}
-use Rattle.words.specs.Insns.{insn, Insn, Shape, Replicate, ByElement, Contiguous, Block, Governing, None, By, Dtype, Offset, Imm, Reg, Back, Keep, Post, Decoded, Outside, Undefined, Is}
+use Rattle.ground.specs.Pieces.{bits}
+use Rattle.words.specs.Dtypes.{plainOf}
+use Rattle.words.specs.Insns.{insn, Shape, Replicate, ByElement, Contiguous, Block, None, By, Dtype, Offset, Back, Post, Decoded, Outside, Undefined, Is}
 use Rattle.words.specs.Families.{replicateOf, sveOf, byElementOf, contiguousOf, blockOf, immediate, register, scalarOf, families, choices, readOf}
+use Rattle.words.specs.Ranges.{OffsetInRange, BackInRange, Governed, ShapeInRange, InsnInRange, InRange}
 use Rattle.words.proofs.Rule.{never-wider}
-
--- a scalar offset is never register 31
-abbrev pub OffsetInRange : Offset → Type 0
-OffsetInRange (Imm i) = i < 16
-OffsetInRange (Reg r) = r < 31
-
-abbrev pub BackInRange : Back → Type 0
-BackInRange Keep = Unit {0}
-BackInRange (Post r) = r < 32
-
--- one of the first eight predicates governs
-abbrev pub Governed : Governing → Type 0
-Governed None = ⊥
-Governed (By g) = g < 8
-
--- an element is a row of the dtype table, or is as wide in memory as in its lane
-abbrev pub InTable : Dtype → Type 0
-InTable d = (n : ℕ) × (n < 16) × (d ≡ dtypeOf n)
-
-abbrev pub Plain : Dtype → Type 0
-Plain d = d ≡ plainOf (d .memory)
-
--- nothing governs LD1R, and every other load is governed
-abbrev pub ShapeInRange : Insn → Shape → Type 0
-ShapeInRange i (Replicate q back) = (q < 2) × BackInRange back × Plain (i .element) × (i .governing ≡ None)
-ShapeInRange i (ByElement imm6) = (imm6 < 64) × Governed (i .governing) × InTable (i .element)
-ShapeInRange i (Contiguous offset) = OffsetInRange offset × Governed (i .governing) × InTable (i .element)
-ShapeInRange i (Block wide offset) = OffsetInRange offset × Governed (i .governing) × Plain (i .element)
-
-pub record InsnInRange (i : Insn) : Type 0 where
-  pub narrower : bytesOf (i .element .memory) ≤ bytesOf (i .element .lane)
-  pub base : i .base < 32
-  pub target : i .target < 32
-  pub shape : ShapeInRange i (i .shape)
-
-abbrev pub InRange : Decoded → Type 0
-InRange Outside = Unit {0}
-InRange Undefined = Unit {0}
-InRange (Is i) = InsnInRange i
 
 module _ (w : ℕ) where
   replicate-in : (back : Back) → BackInRange back → InRange (replicateOf back w)
   replicate-in back h =
-      if-cases InRange (eqb (bits w 22 22) 0 || eqb (bits w 12 12) 1) Undefined (Is (insn (plainOf (sizeOf (bits w 11 10))) None (bits w 9 5) (bits w 4 0) (Replicate (bits w 30 30) back))) (λ _. tt)
+      if-cases InRange (eqb (bits w 22 22) 0 || eqb (bits w 12 12) 1) Undefined
+      (Is (insn (plainOf (sizeOf (bits w 11 10))) None (bits w 9 5) (bits w 4 0) (Replicate (bits w 30 30) back))) (λ _. tt)
       (λ _. record { narrower = omega arith; base = omega arith; target = omega arith; shape = (omega arith, h, refl, refl) })
 
   post-in : InRange (replicateOf (Post (bits w 20 16)) w)

@@ -14,7 +14,7 @@ use mathlib.Core.Bool.{true, false}
 use Rattle.ground.specs.Sizes.{bytesOf, sizeOf}
 use Rattle.ground.specs.declared.Size.{Size}
 use Rattle.ground.specs.declared.Size.the-variants.{B8, B16, B32, B64}
-use Rattle.words.specs.Dtypes.{u, dtypes, dtypeOf}
+use Rattle.words.specs.Dtypes.{unsignedRow, dtypes, dtypeOf}
 use Rattle.words.specs.Insns.{Dtype}
 
 abbrev pub ruleOf : ℕ → Dtype
@@ -33,7 +33,7 @@ table = refl
 
 pub rule : (d : ℕ) → d < 16 → dtypeOf d ≡ ruleOf d
 unfolding dtypeOf
-rule d h = rw (table, getD-listed ruleOf 0 16 d (u B64 B64) h, zero-add d)
+rule d h = rw (table, getD-listed ruleOf 0 16 d (unsignedRow B64 B64) h, zero-add d)
 
 -- the row of an element, from its sizes and sign alone
 abbrev logOf : Size → ℕ
@@ -45,28 +45,29 @@ logOf B64 = 3
 abbrev pub rowOf : Dtype → ℕ
 rowOf d = if d .signed then (3 - logOf (d .memory)) * 4 + (3 - logOf (d .lane)) else logOf (d .memory) * 4 + logOf (d .lane)
 
-told : listed (λ d. rowOf (ruleOf d)) 0 16 ≡ listed (λ d. d) 0 16
+rowOf-undoes-ruleOf : listed (λ d. rowOf (ruleOf d)) 0 16 ≡ listed (λ d. d) 0 16
 unfolding sizeOf
-told = refl
+rowOf-undoes-ruleOf = refl
 
 -- so no two rows have the same: an element names its dtype
 pub dtype-row : (d : ℕ) → d < 16 → rowOf (dtypeOf d) ≡ d
 dtype-row d h =
     ap rowOf (rule d h)
     ∙ ap (λ (e : ℕ). rowOf (ruleOf e)) (sym (zero-add d))
-    ∙ (sym (getD-listed (λ e. rowOf (ruleOf e)) 0 16 d 0 h) ∙ ap (λ (l : List ℕ). getD l d 0) told ∙ getD-listed (λ e. e) 0 16 d 0 h ∙ zero-add d)
+    ∙ (sym (getD-listed (λ e. rowOf (ruleOf e)) 0 16 d 0 h)
+    ∙ ap (λ (l : List ℕ). getD l d 0) rowOf-undoes-ruleOf ∙ getD-listed (λ e. e) 0 16 d 0 h ∙ zero-add d)
 
 pub dtype-injective : (d e : ℕ) → d < 16 → e < 16 → dtypeOf d ≡ dtypeOf e → d ≡ e
 dtype-injective d e h k same = sym (dtype-row d h) ∙ ap rowOf same ∙ dtype-row e k
 
 -- a number that no field of four bits has
-pub past : (d : ℕ) → 16 ≤ d → dtypeOf d ≡ u B64 B64
+pub past : (d : ℕ) → 16 ≤ d → dtypeOf d ≡ unsignedRow B64 B64
 unfolding dtypeOf
-past d h = List·getD-eq-default dtypes (u B64 B64) (rw sixteen h)
+past d h = List·getD-eq-default dtypes (unsignedRow B64 B64) (rw sixteen h)
 
 -- what is read fits its lane, whatever the number
 pub never-wider : (d : ℕ) → bytesOf (dtypeOf d .memory) ≤ bytesOf (dtypeOf d .lane)
 unfolding dtypeOf dtypes
 never-wider d =
     leb-true (bytesOf (dtypeOf d .memory)) (bytesOf (dtypeOf d .lane))
-    (all-at (λ (r : Dtype). leb (bytesOf (r .memory)) (bytesOf (r .lane))) dtypes (u B64 B64) refl refl d)
+    (all-at (λ (r : Dtype). leb (bytesOf (r .memory)) (bytesOf (r .lane))) dtypes (unsignedRow B64 B64) refl refl d)

@@ -5,9 +5,10 @@ use mathlib.Core.List.{List, [], _∷_}
 use lib.Dec.{eqb}
 use Rattle.ground.specs.Choices.{if_then_else_, allOf, Row, _⇒_, firstOf}
 use Rattle.ground.specs.Sizes.{sizeOf}
-use Rattle.words.specs.Fields.{bits}
+use Rattle.ground.specs.Pieces.{bits}
 use Rattle.words.specs.Dtypes.{plainOf, dtypeOf}
-use Rattle.words.specs.Insns.{insn, Insn, Shape, Replicate, ByElement, Contiguous, Block, None, By, Dtype, Offset, Imm, Reg, Back, Keep, Post, Decoded, Outside, Undefined, Is}
+use Rattle.words.specs.Insns.{insn, Insn, Shape, Replicate, ByElement, Contiguous, Block, None, By, Dtype, Offset, Imm, Reg, Back, Keep, Post}
+use Rattle.words.specs.Insns.{Decoded, Outside, Undefined, Is}
 
 -- LD1R: L=0 or S=1 is undefined
 abbrev pub replicateOf : Back → ℕ → Decoded

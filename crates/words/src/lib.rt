@@ -1,5 +1,6 @@
 // Which word is which load: the family table of the scope of work.
 // A field word<hi:lo> is written word / 2^lo % 2^(hi - lo + 1), the lowest too, as its definition is.
+// 2^lo is written in hexadecimal, with its bit at its place in the word.
 use ground::Size;
 ghost use mathlib.Core.Path.{_≡_};
 ghost use mathlib.Core.Bool.{true, false};
@@ -101,16 +102,16 @@ fn plain(size: Size) -> Dtype
 fn replicate(word: u32, back: Back) -> Decoded
     ensures { λ r. ⌜ r ≡ replicateOf back word ⌝ }
 {
-    if (word / 4194304 % 2 == 0) | (word / 4096 % 2 == 1) {
+    if (word / 0x0040_0000 % 2 == 0) | (word / 0x0000_1000 % 2 == 1) {
         return Decoded::Undefined;
     }
     Decoded::Is(Insn {
-        element: plain(Size::of(word / 1024 % 4)),
-        base: word / 32 % 32,
+        element: plain(Size::of(word / 0x0000_0400 % 4)),
+        base: word / 0x0000_0020 % 32,
         target: word / 1 % 32,
         governing: Governing::None,
         shape: Shape::Replicate {
-            q: word / 1073741824 % 2,
+            q: word / 0x4000_0000 % 2,
             back,
         },
     })
@@ -122,9 +123,9 @@ fn sve(word: u32, element: Dtype, shape: Shape) -> Decoded
 {
     Decoded::Is(Insn {
         element,
-        base: word / 32 % 32,
+        base: word / 0x0000_0020 % 32,
         target: word / 1 % 32,
-        governing: Governing::By(word / 1024 % 8),
+        governing: Governing::By(word / 0x0000_0400 % 8),
         shape,
     })
 }
@@ -132,12 +133,12 @@ fn sve(word: u32, element: Dtype, shape: Shape) -> Decoded
 fn by_element(word: u32) -> Decoded
     ensures { λ r. ⌜ r ≡ byElementOf word ⌝ }
 {
-    let element = Dtype::of(word / 8388608 % 4 * 4 + word / 8192 % 4);
+    let element = Dtype::of(word / 0x0080_0000 % 4 * 4 + word / 0x0000_2000 % 4);
     sve(
         word,
         element,
         Shape::ByElement {
-            imm6: word / 65536 % 64,
+            imm6: word / 0x0001_0000 % 64,
         },
     )
 }
@@ -147,7 +148,7 @@ fn contiguous(word: u32, offset: Offset) -> Decoded
 {
     sve(
         word,
-        Dtype::of(word / 2097152 % 16),
+        Dtype::of(word / 0x0020_0000 % 16),
         Shape::Contiguous { offset },
     )
 }
@@ -155,7 +156,7 @@ fn contiguous(word: u32, offset: Offset) -> Decoded
 fn block(wide: bool, word: u32, offset: Offset) -> Decoded
     ensures { λ r. ⌜ r ≡ blockOf wide offset word ⌝ }
 {
-    let element = plain(Size::of(word / 8388608 % 4));
+    let element = plain(Size::of(word / 0x0080_0000 % 4));
     sve(word, element, Shape::Block { wide, offset })
 }
 
@@ -163,7 +164,7 @@ fn block(wide: bool, word: u32, offset: Offset) -> Decoded
 fn scalar(word: u32, load: Decoded) -> Decoded
     ensures { λ r. ⌜ r ≡ scalarOf word load ⌝ }
 {
-    if word / 65536 % 32 == 31 {
+    if word / 0x0001_0000 % 32 == 31 {
         return Decoded::Undefined;
     }
     load
@@ -173,36 +174,37 @@ fn scalar(word: u32, load: Decoded) -> Decoded
 pub fn read(word: u32) -> Decoded
     ensures { λ r. ⌜ r ≡ readOf word ⌝ }
 {
-    let low = word / 2147483648 % 2 == 0;
-    let top = word / 33554432 % 128;
-    let op = word / 8192 % 8;
-    let imm = Offset::Imm(word / 65536 % 16);
-    let reg = Offset::Reg(word / 65536 % 32);
-    if low & (word / 8388608 % 128 == 26) & (word / 8192 % 512 == 6) {
+    let low = word / 0x8000_0000 % 2 == 0b0;
+    let bits_29_23 = word / 0x0080_0000 % 128;
+    let top = word / 0x0200_0000 % 128;
+    let op = word / 0x0000_2000 % 8;
+    let imm = Offset::Imm(word / 0x0001_0000 % 16);
+    let reg = Offset::Reg(word / 0x0001_0000 % 32);
+    if low & (bits_29_23 == 0b0011010) & (word / 0x0000_2000 % 512 == 0b000000110) {
         return replicate(word, Back::Keep);
     }
-    if low & (word / 8388608 % 128 == 27) & (word / 2097152 % 2 == 0) & (op == 6) {
-        return replicate(word, Back::Post(word / 65536 % 32));
+    if low & (bits_29_23 == 0b0011011) & (word / 0x0020_0000 % 2 == 0b0) & (op == 0b110) {
+        return replicate(word, Back::Post(word / 0x0001_0000 % 32));
     }
-    if (top == 66) & (word / 4194304 % 2 == 1) & (word / 32768 % 2 == 1) {
+    if (top == 0b1000010) & (word / 0x0040_0000 % 2 == 0b1) & (word / 0x0000_8000 % 2 == 0b1) {
         return by_element(word);
     }
-    if (top == 82) & (word / 1048576 % 2 == 0) & (op == 5) {
+    if (top == 0b1010010) & (word / 0x0010_0000 % 2 == 0b0) & (op == 0b101) {
         return contiguous(word, imm);
     }
-    if (top == 82) & (op == 2) {
+    if (top == 0b1010010) & (op == 0b010) {
         return scalar(word, contiguous(word, reg));
     }
-    if (top == 82) & (word / 1048576 % 8 == 0) & (op == 1) {
+    if (top == 0b1010010) & (word / 0x0010_0000 % 8 == 0b000) & (op == 0b001) {
         return block(false, word, imm);
     }
-    if (top == 82) & (word / 2097152 % 4 == 0) & (op == 0) {
+    if (top == 0b1010010) & (word / 0x0020_0000 % 4 == 0b00) & (op == 0b000) {
         return scalar(word, block(false, word, reg));
     }
-    if (top == 82) & (word / 1048576 % 8 == 2) & (op == 1) {
+    if (top == 0b1010010) & (word / 0x0010_0000 % 8 == 0b010) & (op == 0b001) {
         return block(true, word, imm);
     }
-    if (top == 82) & (word / 2097152 % 4 == 1) & (op == 0) {
+    if (top == 0b1010010) & (word / 0x0020_0000 % 4 == 0b01) & (op == 0b000) {
         return scalar(word, block(true, word, reg));
     }
     Decoded::Outside

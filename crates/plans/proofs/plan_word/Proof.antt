@@ -1,6 +1,7 @@
 -- `plan_word` meets its contract: the word is read as the definition reads it, and its fields are in range.
 use mathlib.Core.Path.{sym, subst, _∙_}
-use Rattle.words.proofs.Ranges.{InRange, in-range}
+use Rattle.words.specs.Ranges.{InRange}
+use Rattle.words.proofs.Ranges.{in-range}
 use Rattle.loads.specs.Steps.{planned}
 use Rattle.plans.proofs.plan_word.Statement.{statement}
 use Rattle.plans.proofs.plan_word.Tie as tie

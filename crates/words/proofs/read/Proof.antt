@@ -13,7 +13,7 @@ use Rattle.words.proofs.read.Tie as tie
 
 -- a result that is what row k says
 row : (k w : ℕ) {r : Decoded} → k < length families → fits w (rowAt families k .bits) ≡ true → r ≡ rowAt families k .means w → r ≡ readOf w
-row k w l t e = e ∙ sym (row-reads w k (record { there = l; fitting = t }))
+row k w l t e = e ∙ sym (row-reads w k l t)
 
 -- no row fits
 none : tie.Need-returns-10

@@ -11,7 +11,7 @@ use mir.Syntax.{w64}
 use mir.Val.{Fits}
 use Rattle.words.specs.declared.Governing.{Governing}
 use Rattle.words.specs.declared.Governing.the-variants.{By}
-use Rattle.words.proofs.Ranges.{Governed}
+use Rattle.words.specs.Ranges.{Governed}
 use Rattle.loads.specs.Sounds.{GovernedIn}
 use Rattle.loads.specs.declared.Rule.{Rule}
 use Rattle.loads.specs.declared.Rule.the-variants.{Always, LaneBit, ElementBit}

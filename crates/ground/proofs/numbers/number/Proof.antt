@@ -24,7 +24,7 @@ module _ (c : tie.After-byte-on Inv-loop μ-loop) where
   small j = omega (arith, c .before .before .before .before .shared-slice-known .given (c .before .before .before .before .before .args .at + j))
 
   more : c .before .before .loop .i < 8
-  more = omega (arith, c .before .loop-test .taken, c .before .before .before .few .ensures)
+  more = omega (arith, c .before .loop-test .taken, c .before .before .before .at-most-eight .ensures)
 
 pub number-spec : {M : Type 1} → statement M
 number-spec =
@@ -36,9 +36,12 @@ number-spec =
     (λ c. let m = more c in omega arith)
     (λ c. record { fits = rw (c .before .before .loop .inv .1, c .byte-on .ensures) (in-word (byte c) (small c) (c .before .before .loop .i) (more c)) })
     (λ c. search needs) (λ c. search needs)
-    (λ c. (omega (arith, c .before .loop-test .taken), rw (c .before .before .loop .inv .1, c .byte-on .ensures) (turned (byte c) (small c) (c .before .before .loop .i) (more c))))
+    (λ c. (
+      omega (arith, c .before .loop-test .taken),
+      rw (c .before .before .loop .inv .1, c .byte-on .ensures) (turned (byte c) (small c) (c .before .before .loop .i) (more c)),
+    ))
     (λ c.
     let g = c .before .before .before .before .args in
-    let e : c .before .loop .i ≡ c .before .before .few .result = omega (arith, c .before .loop .inv .0, c .loop-test .left) in
-    let v = c .before .loop .inv .1 ∙ ap (bytesAt (g .s .now) (g .at)) (e ∙ c .before .before .few .ensures) in
+    let e : c .before .loop .i ≡ c .before .before .at-most-eight .result = omega (arith, c .before .loop .inv .0, c .loop-test .left) in
+    let v = c .before .loop .inv .1 ∙ ap (bytesAt (g .s .now) (g .at)) (e ∙ c .before .before .at-most-eight .ensures) in
     (v, rw v (in-bits (λ j. getD (g .s .now) (g .at + j) 0) (λ j. omega (arith, c .before .before .before .shared-slice-known .given (g .at + j))) _))))

@@ -23,7 +23,11 @@ put-spec =
     (λ c. (omega arith, search needs, rw div-one, λ i l. absurd (omega arith)))
     (λ c. search needs) (λ c. search needs) (λ c. search needs) (λ c. search needs)
     (λ c.
-    let t = c .before .loop in
-    (omega arith, rw length-set (t .inv .1), rw (t .inv .2, add-one, pow-suc) (div-div-eq-div-mul _ _ 256), stored (λ i. c .before .before .args .v / 256 ^ i % 256) (t .dst) (t .j) _ (omega arith) (t .inv .3) (rw (t .inv .2))))
+    let t = c .before .loop in (
+      omega arith,
+      rw length-set (t .inv .1),
+      rw (t .inv .2, add-one, pow-suc) (div-div-eq-div-mul _ _ 256),
+      stored (λ i. c .before .before .args .v / 256 ^ i % 256) (t .dst) (t .j) _ (omega arith) (t .inv .3) (rw (t .inv .2)),
+    ))
     (λ c. c .before .loop .inv .1)
     (λ c. is-listed _ _ _ (c .before .loop .inv .1) (λ i l. c .before .loop .inv .3 i (omega arith))))

@@ -14,8 +14,10 @@ of-spec =
     (λ c. sym (past (c .before .args .field) (omega arith)))
     (λ c κs. search needs)
     (λ c κs. search needs)
-    (λ c. rw (rule (c .before .before .before .before .args .field) (omega arith), le-leb _ _ (c .before .before .if2 .taken), c .before .of .ensures, c .of2 .ensures))
+    (λ c. let field = c .before .before .before .before .args .field in
+    rw (rule field (omega arith), le-leb _ _ (c .before .before .if2 .taken), c .before .of .ensures, c .of2 .ensures))
     (λ c κs. search needs)
     (λ c. search needs)
     (λ c κs. search needs)
-    (λ c. rw (rule (c .before .before .before .before .args .field) (omega arith), lt-leb _ _ (c .before .before .if2 .left), c .before .of3 .ensures, c .of4 .ensures)))
+    (λ c. let field = c .before .before .before .before .args .field in
+    rw (rule field (omega arith), lt-leb _ _ (c .before .before .if2 .left), c .before .of3 .ensures, c .of4 .ensures)))
