@@ -1,5 +1,5 @@
 -- A lane as code makes it: a number modulo 2^64, byte by byte, and what the definition has there; element by element, and from a stretch.
-use mathlib.Core.Path.{_≡_, refl, sym, ap, _∙_}
+use mathlib.Core.Path.{_≡_, sym, ap, _∙_}
 use mathlib.Core.Bool.{Bool, true, false, _&&_}
 use mathlib.Core.List.{List, _++_}
 use Prim.Native.Nat.{ℕ, suc, _+_, _-_, _*_, _/_, _%_, _^_, _≤_, _<_}
@@ -12,7 +12,6 @@ use Rattle.ground.specs.Choices.{if_then_else_}
 use Rattle.ground.specs.Lists.{listed}
 use Rattle.ground.specs.Sizes.{bytesOf}
 use Rattle.ground.specs.declared.Size.{Size}
-use Rattle.ground.specs.declared.Size.the-variants.{B8, B16, B32, B64}
 use Rattle.ground.proofs.Fills.{Filled, digits-filled}
 use Rattle.ground.proofs.Laws.{digit-mod, pow-bytes}
 use Rattle.ground.proofs.Sizes.{bytes-few}
@@ -21,13 +20,6 @@ use Rattle.memory.specs.declared.Reading.{Reading}
 use Rattle.loads.specs.Outcomes.{extended, laneValue, registerByte}
 use Rattle.loads.specs.declared.Plan.{Plan}
 use lib.ListN.{length, take, drop}
-
--- the largest number of a size is at least half of it where the sign bit is 1
-pub sign-test : (s : Size) (v : ℕ) → ltb ((2 ^ (8 * bytesOf s) - 1) / 2) v ≡ leb (2 ^ (8 * bytesOf s - 1)) v
-sign-test B8 v = refl
-sign-test B16 v = refl
-sign-test B32 v = refl
-sign-test B64 v = refl
 
 -- what a lane has above a number of another size
 pub above : (s t : Size) → 2 ^ (8 * bytesOf t) - 1 - (2 ^ (8 * bytesOf s) - 1) ≡ 2 ^ (8 * bytesOf t) - 2 ^ (8 * bytesOf s)
@@ -60,6 +52,12 @@ module _ (n : ℕ) (some : 0 < n) (few : n ≤ 8) where
   pub twice : 2 ^ (8 * n) ≡ 2 ^ (8 * n - 1) + 2 ^ (8 * n - 1)
   twice = let e : 8 * n ≡ suc (8 * n - 1) = omega arith in ap (λ (k : ℕ). 2 ^ k) e ∙ two-pow-succ (8 * n - 1)
 
+  -- a number is above half of the largest where its sign bit is 1
+  pub sign-test : (v : ℕ) → ltb ((2 ^ (8 * n) - 1) / 2) v ≡ leb (2 ^ (8 * n - 1)) v
+  sign-test v =
+      let e : suc ((2 ^ (8 * n) - 1) / 2) ≡ 2 ^ (8 * n - 1) = omega (arith, twice, pow-pos (8 * n - 1)) in
+      ap (λ (k : ℕ). leb k v) e
+
   pub half-few : (1 ≤ 2 ^ (8 * n - 1)) × (2 ^ (8 * n - 1) + 2 ^ (8 * n - 1) ≤ 2 ^ 64)
   half-few = let k : 8 * n ≤ 64 = omega arith in (pow-pos (8 * n - 1), rw (← twice) (pow-mono k))
 
@@ -76,7 +74,8 @@ module _ (m t : ℕ) (narrower : m ≤ t) (few : t ≤ 8) (v : ℕ) where
       let k : 8 * m ≤ 8 * t = omega arith in
       let less = pow-mono k in
       let one-more : rest ≡ suc (rest - 1) = omega (arith, pow-pos (64 - 8 * t)) in
-      let split : rest * 2 ^ (8 * t) ≡ (rest - 1) * 2 ^ (8 * t) + 2 ^ (8 * t) = ap (λ (k : ℕ). k * 2 ^ (8 * t)) one-more ∙ suc-mul (rest - 1) (2 ^ (8 * t)) in
+      let split : rest * 2 ^ (8 * t) ≡ (rest - 1) * 2 ^ (8 * t) + 2 ^ (8 * t) =
+      ap (λ (k : ℕ). k * 2 ^ (8 * t)) one-more ∙ suc-mul (rest - 1) (2 ^ (8 * t)) in
       rw (all, split) (omega arith)
 
   same-low : wrap (v + (2 ^ 64 - 2 ^ (8 * m))) % 256 ^ t ≡ (v + (2 ^ (8 * t) - 2 ^ (8 * m))) % 256 ^ t
@@ -89,6 +88,10 @@ module _ (m t : ℕ) (narrower : m ≤ t) (few : t ≤ 8) (v : ℕ) where
   unfolding extended
   widens signed j h = go (signed && leb (2 ^ (8 * m - 1)) v)
     where
-      go : (b : Bool) → wrap (if b then v + (2 ^ 64 - 2 ^ (8 * m)) else v) / 256 ^ j % 256 ≡ (if b then v + (2 ^ (8 * t) - 2 ^ (8 * m)) else v) / 256 ^ j % 256
-      go true = sym (digit-mod (wrap (v + (2 ^ 64 - 2 ^ (8 * m)))) t j h) ∙ ap (λ (x : ℕ). x / 256 ^ j % 256) same-low ∙ digit-mod (v + (2 ^ (8 * t) - 2 ^ (8 * m))) t j h
+      go : (b : Bool)
+          → wrap (if b then v + (2 ^ 64 - 2 ^ (8 * m)) else v) / 256 ^ j % 256 ≡ (if b then v + (2 ^ (8 * t) - 2 ^ (8 * m)) else v) / 256 ^ j % 256
+      go true =
+          sym (digit-mod (wrap (v + (2 ^ 64 - 2 ^ (8 * m)))) t j h)
+          ∙ ap (λ (x : ℕ). x / 256 ^ j % 256) same-low
+          ∙ digit-mod (v + (2 ^ (8 * t) - 2 ^ (8 * m))) t j h
       go false = digit-mod v 8 j (omega arith)

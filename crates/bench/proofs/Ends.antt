@@ -10,10 +10,10 @@ use lib.Dec.{eqb}
 use lib.ListN.{length, take, drop, length-take, length-drop, take-append-drop}
 use Rattle.ground.specs.Choices.{if_then_else_}
 use Rattle.ground.proofs.Fills.{back-in, part-length}
-use Rattle.ground.proofs.Laws.{true-or-false, never, all-of}
+use Rattle.ground.proofs.Laws.{true-or-false, never}
 use Rattle.memory.specs.Areas.{areasTaken}
 use Rattle.memory.specs.declared.Reading.{Reading}
-use Rattle.loads.specs.Benches.{Lent, Bench, areas, acceptedTests, accepted}
+use Rattle.loads.specs.Benches.{Lent, Bench, areas, areFilesAccepted, accepted}
 use Rattle.loads.specs.Answers.{numberOf, reportOf}
 use Rattle.loads.specs.Lanes.{predicateOf, governing}
 use Rattle.loads.specs.Outcomes.{answersOf, scalarsAfter, benchAfter, outcomeOf}
@@ -30,10 +30,11 @@ use Rattle.loads.specs.declared.Plan.{Plan}
 use Rattle.loads.specs.declared.Planned.{Planned}
 use Rattle.loads.specs.declared.Planned.the-variants as P
 use Rattle.loads.specs.declared.StepResult.{StepResult}
+use Rattle.loads.proofs.Accepts.{length-exactly, accepted-exactly}
 use Rattle.plans.specs.Prepares.{plannedFor}
 use Rattle.plans.proofs.Prepares.{allowed-planned}
 use Rattle.bench.specs.Lends.{benchOf}
-use Rattle.bench.specs.Inside.{filesTaken, stacked, EndsAs}
+use Rattle.bench.specs.Inside.{stacked, EndsAs}
 use Rattle.bench.specs.Quick.{isAlways}
 use Rattle.bench.specs.Roads.{Loaded, Targeted}
 use Rattle.bench.proofs.Small.{slot}
@@ -95,8 +96,7 @@ module _ (l : Lent) (b : Bench) (w : ℕ) where
 
   -- an accepted length is allowed
   pub prepares : accepted l b ≡ true → (q : Planned) → q ≡ plannedFor (l .settings) (b .scalars) w → planned (l .settings) (b .scalars) w ≡ q
-  unfolding accepted
-  prepares h q e = sym (e ∙ allowed-planned (l .settings) (b .scalars) w (all-of (acceptedTests l b) h 0))
+  prepares h q e = sym (e ∙ allowed-planned (l .settings) (b .scalars) w (length-exactly _ .1 (accepted-exactly l b .0 h .allowed)))
 
   pub stops : (a : Answer) → planned (l .settings) (b .scalars) w ≡ P.Stop a → (r : StepResult) → r ≡ record { count = 0; answer = a } → Word r b
   unfolding EndsAs prepared
@@ -107,7 +107,8 @@ module _ (l : Lent) (b : Bench) (w : ℕ) where
   goes p h r after e = rw h e
 
   -- a step: "1", and then the word
-  pub accepts : (files areas′ : Bool) → files ≡ filesTaken (l .settings .vl) (length (b .vectors)) (length (l .predicates)) (length (b .scalars))
+  pub accepts : (files areas′ : Bool)
+      → files ≡ areFilesAccepted (l .settings .vl) (length (b .vectors)) (length (l .predicates)) (length (b .scalars))
       → areas′ ≡ areasTaken (areas l b) → accepted l b ≡ (files && areas′)
   unfolding accepted
   accepts files areas′ e h = rw (e, h)

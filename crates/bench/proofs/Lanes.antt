@@ -2,18 +2,15 @@
 use mathlib.Core.Path.{_≡_, refl, sym, ap, _∙_}
 use mathlib.Core.Bool.{Bool, true, false}
 use mathlib.Core.List.{List, [], _∷_, _++_}
-use mathlib.Core.Logic.{⊎-elim}
 use Prim.Native.Nat.{ℕ, zero, suc, _+_, _-_, _*_, _/_, _%_, _^_, _≤_, _<_, zero-le}
-use native.Mathlib.Nat.{zero-div, zero-mul, mul-assoc, mul-comm, add-mul-div-right, mul-add-mod-self-right, add-comm, div-eq-of-lt, div-lt-iff-lt-mul}
+use native.Mathlib.Nat.{zero-div, mul-assoc, mul-comm, add-mul-div-right, mul-add-mod-self-right, add-comm, div-lt-iff-lt-mul, dvd-mul-left, le-of-dvd}
 use native.Mathlib.Omega.{arith}
-use borrow.Author.Tests.{ltb-true, ltb-false}
 use lib.Arith.{digits-div, digits-mod}
-use lib.Dec.{ltb, lit<}
+use lib.Dec.{lit<}
 use lib.ListN.{length, getD, take, drop}
 use Rattle.ground.specs.Choices.{if_then_else_}
 use Rattle.ground.specs.Lists.{listed, bytesAt}
 use Rattle.ground.proofs.Fills.{Filled, unfilled, one-filled, digits-filled, back-in}
-use Rattle.ground.proofs.Laws.{true-or-false}
 use Rattle.loads.specs.Lanes.{bitOf}
 use Rattle.loads.proofs.Walks.{many}
 use Rattle.plans.proofs.Shapes.{factor-some}
@@ -40,9 +37,11 @@ module _ (s : List ℕ) (from : ℕ) (bits : List ℕ) (stride : ℕ) (signed : 
   lane-digit l v j e h = rw (e, digits-div l h, digits-mod l h)
 
   pub lane-turn : {n l : ℕ} {xs : List ℕ} → Filled (byteFrom s from bits stride signed size width) width n xs l → l * width + width ≤ n
-      → (on : Bool) → on ≡ bitOf bits (l * width) → (v : ℕ) → v ≡ (if on then wrap (extended signed size 8 (bytesAt s (from + l * stride) size)) else 0)
+      → (on : Bool) → on ≡ bitOf bits (l * width)
+      → (v : ℕ) → v ≡ (if on then wrap (extended signed size 8 (bytesAt s (from + l * stride) size)) else 0)
       → (ys : List ℕ) → ys ≡ listed (λ k. v / 256 ^ k % 256) 0 (length (take (l * width + width - l * width) (drop (l * width) xs)))
-      → Filled (byteFrom s from bits stride signed size width) width n (take (l * width) xs ++ (ys ++ drop (l * width + width - l * width) (drop (l * width) xs))) (l + 1)
+      → Filled (byteFrom s from bits stride signed size width) width n
+      (take (l * width) xs ++ (ys ++ drop (l * width + width - l * width) (drop (l * width) xs))) (l + 1)
   unfolding laneFrom
   lane-turn {n} {l} f fits on e v h ys k = digits-filled f v fits (λ j m. lane-digit l v j (rw e at h) m) ys k
 
@@ -107,11 +106,13 @@ module _ (s bits : List ℕ) (stride : ℕ) (signed : Bool) (size width per c : 
       rw (back-in xs ys ys (c * 8) 8 refl) (one-filled f ys (r .size) fits (λ j h. r .so-far j (rw even h) ∙ byte-on j h))
 
   -- the lanes that are on, in one chunk more
-  pub count-turn : many (λ l. bitOf bits (l * width)) 0 (c * per) + many (λ l. bitOf deciding (l * width)) 0 per ≡ many (λ l. bitOf bits (l * width)) 0 ((c + 1) * per)
+  pub count-turn : many (λ l. bitOf bits (l * width)) 0 (c * per) + many (λ l. bitOf deciding (l * width)) 0 per
+      ≡ many (λ l. bitOf bits (l * width)) 0 ((c + 1) * per)
   count-turn =
       let e : (c + 1) * per ≡ c * per + per = omega arith in
       rw (e, many-split (λ l. bitOf bits (l * width)) (c * per) per)
-      (ap (λ (x : ℕ). many (λ l. bitOf bits (l * width)) 0 (c * per) + x) (many-cong (λ l. bitOf deciding (l * width)) (λ j. bitOf bits ((c * per + j) * width)) 0 per (λ j _ h. bit-on j (omega arith))))
+      (ap (λ (x : ℕ). many (λ l. bitOf bits (l * width)) 0 (c * per) + x)
+      (many-cong (λ l. bitOf deciding (l * width)) (λ j. bitOf bits ((c * per + j) * width)) 0 per (λ j _ h. bit-on j (omega arith))))
 
 -- all chunks are all lanes
 pub chunks-filled : {f : ℕ → ℕ} {n chunks width : ℕ} {xs : List ℕ} (per : ℕ) → per * width ≡ 8 → Filled f 8 n xs chunks → Filled f width n xs (chunks * per)
@@ -143,11 +144,7 @@ module _ {s : List ℕ} {stride own size width n : ℕ} (w : LanesIn s 0 stride 
 -- ---- a call whose sizes and sign are constants
 -- a lane is no wider than a chunk
 pub thin : (width : ℕ) → 8 / width * width ≡ 8 → width ≤ 8
-thin width even =
-    ⊎-elim
-    (λ t. let z = div-eq-of-lt (ltb-true 8 width t) in absurd (omega (arith, rw z at even, zero-mul width)))
-    (λ t. ltb-false 8 width t)
-    (true-or-false (ltb 8 width))
+thin width even = le-of-dvd (lit< tt) (rw even at (dvd-mul-left width (8 / width)))
 
 -- sign, lane and memory size, a digit each to the base 16, are told by their number
 pub row-told : (signed b : Bool) (size width z w : ℕ) → (size ≤ 8) × (width ≤ 8) → (z ≤ 8) × (w ≤ 8)

@@ -3,7 +3,8 @@ use mathlib.Core.Path.{_≡_, refl, sym, ap, _∙_}
 use mathlib.Core.Bool.{Bool, true, false}
 use mathlib.Core.List.{List, [], _∷_, _++_}
 use Prim.Native.Nat.{ℕ, _+_, _*_, _/_, _%_, _≤_, _<_}
-use native.Mathlib.Nat.{le-refl, zero-add, one-mul, mul-zero, zero-mul, mul-assoc, mul-pos, mod-le, mod-one, mod-mod, mod-eq-of-lt, mul-div-cancel, mul-le-mul-right, le-of-mul-le-mul-right}
+use native.Mathlib.Nat.{le-refl, zero-add, one-mul, mul-zero, zero-mul, mul-assoc, mul-pos, mul-le-mul-right, le-of-mul-le-mul-right}
+use native.Mathlib.Nat.{mod-le, mod-one, mod-mod, mod-eq-of-lt, mul-div-cancel}
 use native.Mathlib.Omega.{arith}
 use borrow.Author.Tests.{lt-ltb}
 use lib.Dec.{lit<, lit≤}
@@ -14,7 +15,7 @@ use Rattle.ground.specs.Sizes.{bytesOf}
 use Rattle.ground.specs.declared.Size.{Size}
 use Rattle.ground.proofs.Fills.{Filled}
 use Rattle.ground.proofs.Laws.{never, all-at, getD-listed}
-use Rattle.ground.proofs.Sizes.{bytes-some, bytes-few}
+use Rattle.ground.proofs.Sizes.{bytes-some, bytes-few, whole-lanes}
 use Rattle.memory.specs.declared.Reading.{Reading}
 use Rattle.loads.specs.Lanes.{bitOf, laneActive, wanted, takes}
 use Rattle.loads.specs.Outcomes.{laneValue}
@@ -23,7 +24,7 @@ use Rattle.loads.specs.declared.Rule.{Rule}
 use Rattle.loads.specs.declared.Rule.the-variants.{Always, LaneBit, ElementBit}
 use Rattle.loads.proofs.Walks.{many}
 use Rattle.plans.specs.Shapes.{shapedBy, Shaped}
-use Rattle.plans.proofs.Shapes.{whole-lanes, factor-some}
+use Rattle.plans.proofs.Shapes.{factor-some}
 use Rattle.bench.specs.Quick.{LanesIn, LanesOut, isAlways, ownOf, strideOf, bitsOf, countOf, ownIn, FillIn, OwnOut}
 use Rattle.bench.proofs.Small.{slot}
 use Rattle.bench.proofs.Many.{any-many}
@@ -181,7 +182,8 @@ is-always Always h = refl
 is-always LaneBit h = never refl (sym h)
 is-always ElementBit h = never refl (sym h)
 
-first-chunk : {f : ℕ → ℕ} {w k n : ℕ} {ys : List ℕ} (xs : List ℕ) → k * w ≡ 8 → length xs ≡ n → 8 ≤ n → Filled f w 8 ys k → Filled f w n (ys ++ drop 8 xs) k
+first-chunk : {f : ℕ → ℕ} {w k n : ℕ} {ys : List ℕ} (xs : List ℕ) → k * w ≡ 8 → length xs ≡ n → 8 ≤ n → Filled f w 8 ys k
+    → Filled f w n (ys ++ drop 8 xs) k
 first-chunk {ys = ys} xs even long fits c =
     record {
       size = simp (length-append, length-drop) (omega (arith, c .size));
@@ -209,7 +211,8 @@ module _ {p : Plan} {pred s : List ℕ} {n : ℕ} (f : FillIn p pred s n) (rule 
           inside = λ l h. rw (f .long, shape .0, mul-zero) (omega arith);
         }
 
-    pub always-out : (xs : List ℕ) → length xs ≡ n → {ys : List ℕ} {on : ℕ} → LanesOut s 0 (255 ∷ []) 0 false b b 8 ys on (8 / b) → OwnOut p pred s n (ys ++ drop 8 xs) on
+    pub always-out : (xs : List ℕ) → length xs ≡ n → {ys : List ℕ} {on : ℕ} → LanesOut s 0 (255 ∷ []) 0 false b b 8 ys on (8 / b)
+        → OwnOut p pred s n (ys ++ drop 8 xs) on
     always-out xs long r =
         let out = rw e at r in
         rw (rule, shape .2, shape .3, one-mul)
@@ -221,8 +224,9 @@ other-bits Always pred h = never refl h
 other-bits LaneBit pred h = refl
 other-bits ElementBit pred h = refl
 
-module _ {p : Plan} {pred s : List ℕ} {n : ℕ} (f : FillIn p pred s n) {own width b stride : ℕ} (o : own ≡ ownIn p) (w : width ≡ bytesOf (p .lane)) (e : b ≡ bytesOf (p .size))
-    (d : stride ≡ strideOf (p .rule) (bytesOf (p .size))) (h : isAlways (p .rule) ≡ false) where
+module _ {p : Plan} {pred s : List ℕ} {n : ℕ} (f : FillIn p pred s n) {own width b stride : ℕ}
+    (o : own ≡ ownIn p) (w : width ≡ bytesOf (p .lane)) (e : b ≡ bytesOf (p .size)) (d : stride ≡ strideOf (p .rule) (bytesOf (p .size)))
+    (h : isAlways (p .rule) ≡ false) where
   pub other-in : (LanesIn s 0 stride (own * (8 / width)) b width n) × (own ≤ 32) × (own ≤ length pred)
   other-in = rw (o, w, e, d) (own-in f, own-few f .1, omega (arith, own-room f, f .fit .decided h))
 

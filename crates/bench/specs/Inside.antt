@@ -1,22 +1,15 @@
 -- The promises of the functions below `step`. Nothing here has to be believed: the promise of `step` is StepPromise of loads.
-use Prim.Native.Nat.{ℕ, _*_, _/_, _≤_, _<_}
+use Prim.Native.Nat.{ℕ, _≤_, _<_}
 use mathlib.Core.Path.{_≡_}
-use mathlib.Core.Bool.{Bool}
-use mathlib.Core.List.{List, [], _∷_}
-use lib.Dec.{eqb}
+use mathlib.Core.List.{List}
 use lib.ListN.{length, getD}
-use Rattle.ground.specs.Choices.{allOf}
-use Rattle.loads.specs.Benches.{Lent, Bench, lengthAllowed}
+use Rattle.loads.specs.Benches.{Lent, Bench}
 use Rattle.loads.specs.Answers.{reportOf}
 use Rattle.loads.specs.Outcomes.{Outcome}
 use Rattle.loads.specs.Steps.{Prepared, atStack, carriedOut}
 use Rattle.loads.specs.declared.Plan.{Plan}
 use Rattle.loads.specs.declared.Planned.the-variants.{Go}
 use Rattle.loads.specs.declared.StepResult.{StepResult}
-
--- all that a set-up is tested for but its areas: VL, and files of z bytes, p bytes and x numbers
-abbrev pub filesTaken : ℕ → ℕ → ℕ → ℕ → Bool
-filesTaken vl z p x = allOf (lengthAllowed vl ∷ eqb z (32 * (vl / 8)) ∷ eqb p (16 * (vl / 64)) ∷ eqb x 33 ∷ [])
 
 -- what a plan comes to at the stack rule
 unfoldable pub stacked : Plan → Lent → Bench → Prepared

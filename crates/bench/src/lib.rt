@@ -16,13 +16,13 @@ use memory::Map;
 ghost use mathlib.Core.Path.{_≡_};
 ghost use mathlib.Core.Bool.{true};
 ghost use Prim.Native.Nat.{_/_};
-ghost use Rattle.loads.specs.Benches.{accepted};
+ghost use Rattle.loads.specs.Benches.{areFilesAccepted, accepted};
 ghost use Rattle.loads.specs.Sounds.{Sound};
 ghost use Rattle.loads.specs.Steps.{prepared, StepPromise};
 ghost use Rattle.plans.specs.Shapes.{Shaped};
 ghost use Rattle.loads.specs.declared.StepResult.{StepResult};
 ghost use Rattle.bench.specs.Lends.{lentOf, benchOf};
-ghost use Rattle.bench.specs.Inside.{filesTaken, stacked, EndsAs};
+ghost use Rattle.bench.specs.Inside.{stacked, EndsAs};
 
 // How a step ends: so many elements read, and the answer.
 fn ended(count: u64, answer: Answer) -> StepResult
@@ -32,8 +32,8 @@ fn ended(count: u64, answer: Answer) -> StepResult
 }
 
 // Whether the vector length is allowed, and files of z bytes, p bytes and x numbers are as long as it asks.
-fn files_taken(vl: u64, z: usize, p: usize, x: usize) -> bool
-    ensures { λ r. ⌜ r ≡ filesTaken vl z p x ⌝ }
+fn files_accepted(vl: u64, z: usize, p: usize, x: usize) -> bool
+    ensures { λ r. ⌜ r ≡ areFilesAccepted vl z p x ⌝ }
 {
     if loads::allowed(vl) {
         let z_asked = 32 * (vl / 8);
@@ -126,7 +126,7 @@ pub fn step<'a>(
 ) -> StepResult
     ensures { λ r. ⌜ (let l = lentOf settings (now (p .entry)) map (now (flash .entry)) (now («flash_rights» .entry)) (now («ram_rights» .entry)) in StepPromise l word (benchOf (now (z .entry)) (now (x .entry)) (now (ram .entry))) r l (benchOf (now (z .exit)) (now (x .exit)) (now (ram .entry)))) ⌝ }
 {
-    if files_taken(settings.vl, z.len(), p.len(), x.len()) {
+    if files_accepted(settings.vl, z.len(), p.len(), x.len()) {
         if memory::taken(map, flash, flash_rights, ram, ram_rights) {
             return accepted_step(
                 z,

@@ -36,7 +36,9 @@ module _ (r s : Shown) (p : OfFormat r) (q : OfFormat s) (same : bitsOf r ≡ bi
   alike-float f a b =
       ⊎-elim
       (λ e. a .1 e ∙ ap Whole same ∙ sym (b .1 (rw same at e)))
-      (λ e. made-of f r (a .0 e .0) p (a .0 e .1) ∙ ap (λ (n : ℕ). floatCase f (ofBits f n)) same ∙ sym (made-of f s (b .0 (rw same at e) .0) q (b .0 (rw same at e) .1)))
+      (λ e.
+      let there = b .0 (rw same at e) in
+      made-of f r (a .0 e .0) p (a .0 e .1) ∙ ap (λ (n : ℕ). floatCase f (ofBits f n)) same ∙ sym (made-of f s (there .0) q (there .1)))
       (true-or-false (nanBits f (bitsOf r)))
 
   alike : (kind : Kind) → AsAsked kind r → AsAsked kind s → r ≡ s

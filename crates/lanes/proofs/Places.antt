@@ -1,20 +1,17 @@
 -- Where a lane that is there lies: within the file, so that its bytes make a number of its width.
 use mathlib.Core.List.{List}
-use Prim.Native.Nat.{ℕ, _+_, _*_, _/_, _^_, _≤_, _<_}
-use native.Mathlib.Nat.{suc-mul, le-div-iff-mul-le, div-div-eq-div-mul, mul-le-mul-right}
+use Prim.Native.Nat.{ℕ, _+_, _/_, _^_, _≤_, _<_}
+use native.Mathlib.Nat.{mul-le-mul-right}
 use native.Mathlib.Omega.{arith}
 use lib.ListN.{length, getD}
 use Rattle.ground.specs.Lists.{bytesAt}
+use Rattle.ground.proofs.Sizes.{register-room}
+use Rattle.ground.proofs.Turns.{in-bits}
 use Rattle.lanes.specs.Lanes.{laneAt}
 use Rattle.lanes.specs.Said.{There}
 use Rattle.lanes.specs.Inner.{Fitting}
 use Rattle.lanes.specs.declared.Kind.{Kind}
 use Rattle.lanes.proofs.Tests.{Bytes, width-exactly, in-bytes}
-use Rattle.ground.proofs.Turns.{in-bits}
-
--- lane k of n bytes that are cut into lanes of b
-in-register : (n k b : ℕ) → 0 < b → k < n / b → k * b + b ≤ n
-in-register n k b some h = rw (← suc-mul) (le-div-iff-mul-le some .0 h)
 
 module _ {vl : ℕ} {z : List ℕ} {register : ℕ} {kind : Kind} {width lane : ℕ} (t : There vl z register kind width lane) where
   pub bytes : Bytes width
@@ -22,16 +19,14 @@ module _ {vl : ℕ} {z : List ℕ} {register : ℕ} {kind : Kind} {width lane : 
 
   within : laneAt vl register width lane + width / 8 ≤ length z
   within =
-      let some = bytes .some in
-      let whole = bytes .whole in
       let file = t .file in
-      let below = in-register (vl / 8) lane (width / 8) (omega arith) (rw (div-div-eq-div-mul, whole) (t .counted)) in
+      let below = register-room vl (width / 8) lane (rw (bytes .whole) (t .counted)) in
       omega (arith, below, mul-le-mul-right (vl / 8) (t .named))
 
   pub in-word : laneAt vl register width lane < 2 ^ 64
   in-word =
       let file = t .file in
-      let most = t .most in
+      let most = t .allowed .largest in
       let ends = within in
       omega arith
 

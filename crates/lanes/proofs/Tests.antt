@@ -8,14 +8,11 @@ use lib.Dec.{T, ltb, leb, eqb, lit<, lit≤}
 use lib.ListN.{length}
 use borrow.Author.Tests.{leb-true, le-leb, ltb-true, lt-ltb, eqb-true, eq-eqb}
 use Rattle.ground.proofs.Laws.{all-of, all-hold, or-cases}
-use Rattle.loads.specs.Benches.{lengthTests, lengthAllowed}
+use Rattle.loads.proofs.Accepts.{length-exactly}
 use Rattle.lanes.specs.Lanes.{widthFits, laneTests, laneThere}
 use Rattle.lanes.specs.Said.{At, There}
 use Rattle.lanes.specs.declared.Kind.{Kind}
 use Rattle.lanes.specs.declared.Kind.the-variants.{Whole, Single, Double}
-
-pub length-most : (vl : ℕ) → lengthAllowed vl ≡ true → vl ≤ 2048
-length-most vl h = leb-true _ _ (all-of (lengthTests vl) h 2)
 
 pub width-exactly : (kind : Kind) (width : ℕ) → (widthFits kind width ≡ true) ↔ At kind width
 width-exactly Whole width = (
@@ -50,11 +47,8 @@ module _ (vl : ℕ) (z : List ℕ) (register : ℕ) (kind : Kind) (width lane : 
   unfolding laneThere
   said h =
       let t = all-of (laneTests vl (length z) register kind width lane) h in
-      let v = all-of (lengthTests vl) (t 0) in
       record {
-        multiple = eqb-true _ _ (v 0);
-        least = leb-true _ _ (v 1);
-        most = leb-true _ _ (v 2);
+        allowed = length-exactly vl .0 (t 0);
         file = eqb-true _ _ (t 2);
         named = leb-true _ _ (t 3);
         sized = width-exactly kind width .0 (t 1);
@@ -65,7 +59,7 @@ module _ (vl : ℕ) (z : List ℕ) (register : ℕ) (kind : Kind) (width lane : 
   unfolding laneThere
   met t =
       all-hold (laneTests vl (length z) register kind width lane) (
-        all-hold (lengthTests vl) (eq-eqb _ _ (t .multiple), (le-leb _ _ (t .least), (le-leb _ _ (t .most), tt))),
+        length-exactly vl .1 (t .allowed),
         (width-exactly kind width .1 (t .sized), (eq-eqb _ _ (t .file), (le-leb _ _ (t .named), (lt-ltb _ _ (t .counted), tt)))),
       )
 

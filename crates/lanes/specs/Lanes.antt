@@ -7,7 +7,7 @@ use lib.ListN.{length}
 use lib.Ieee.{Float, Format, binary32, binary64, ofBits, toBits, nanBits}
 use Rattle.ground.specs.Choices.{if_then_else_, allOf}
 use Rattle.ground.specs.Lists.{bytesAt}
-use Rattle.loads.specs.Benches.{lengthAllowed}
+use Rattle.loads.specs.Benches.{isLengthAllowed}
 use Rattle.lanes.specs.declared.Kind.{Kind}
 use Rattle.lanes.specs.declared.Kind.the-variants as As
 use Rattle.lanes.specs.declared.Shown.{Shown}
@@ -22,7 +22,7 @@ widthFits As.Double width = eqb width 64
 -- VL; the width; a file of n bytes is 32 registers of VL/8; registers 0 to 31; VL/width lanes
 abbrev pub laneTests : ℕ → ℕ → ℕ → Kind → ℕ → ℕ → List Bool
 laneTests vl n register kind width lane =
-    lengthAllowed vl
+    isLengthAllowed vl
     ∷ widthFits kind width
     ∷ eqb n (32 * (vl / 8))
     ∷ leb register 31

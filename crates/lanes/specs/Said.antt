@@ -7,6 +7,7 @@ use mathlib.Core.Logic.{_⊎_}
 use lib.Dec.{T}
 use lib.Ieee.{Float, Format, binary32, binary64, nanBits, fits}
 use lib.ListN.{length, getD}
+use Rattle.loads.specs.Said.{LengthAllowed}
 use Rattle.lanes.specs.Lanes.{bitsOf}
 use Rattle.lanes.specs.declared.Kind.{Kind}
 use Rattle.lanes.specs.declared.Kind.the-variants as As
@@ -21,9 +22,7 @@ At As.Double width = width ≡ 64
 
 -- there is such a lane: not "wrong VL, file length, register over 31, width or lane"
 pub record There (vl : ℕ) (z : List ℕ) (register : ℕ) (kind : Kind) (width lane : ℕ) : Type 0 where
-  pub multiple : vl % 128 ≡ 0
-  pub least : 128 ≤ vl
-  pub most : vl ≤ 2048
+  pub allowed : LengthAllowed vl
   pub file : length z ≡ 32 * (vl / 8)
   pub named : register ≤ 31
   pub sized : At kind width

@@ -1,36 +1,48 @@
--- A set-up is accepted exactly when it is as the scope of work says.
+-- A vector length is allowed, and a set-up is accepted, exactly when it is as the scope of work says.
+use Prim.Native.Nat.{ℕ}
 use mathlib.Core.Path.{_≡_}
-use mathlib.Core.Bool.{true}
+use mathlib.Core.Bool.{Bool, true}
+use mathlib.Core.List.{List}
 use mathlib.Core.Logic.{_↔_}
+use lib.ListN.{length}
 use borrow.Author.Tests.{leb-true, le-leb, eqb-true, eq-eqb}
-use Rattle.ground.proofs.Laws.{all-of, all-hold}
+use Rattle.ground.specs.Choices.{allOf}
+use Rattle.ground.proofs.Laws.{all-of, all-hold, both, and-left, and-right}
 use Rattle.memory.proofs.Takes.{taken-exactly}
-use Rattle.loads.specs.Benches.{Lent, Bench, areas, lengthTests, acceptedTests, accepted}
-use Rattle.loads.specs.Said.{Accepted}
+use Rattle.loads.specs.Benches.{Lent, Bench, areas, lengthTests, isLengthAllowed, fileTests, accepted}
+use Rattle.loads.specs.Said.{LengthAllowed, Accepted}
+
+pub length-exactly : (vl : ℕ) → (isLengthAllowed vl ≡ true) ↔ LengthAllowed vl
+length-exactly vl = (
+  λ h. let t = all-of (lengthTests vl) h in record { multiple = eqb-true _ _ (t 0); least = leb-true _ _ (t 1); largest = leb-true _ _ (t 2) },
+  λ a. all-hold (lengthTests vl) (eq-eqb _ _ (a .multiple), (le-leb _ _ (a .least), (le-leb _ _ (a .largest), tt))),
+)
 
 module _ (l : Lent) (b : Bench) where
+  abbrev tests : List Bool
+  tests = fileTests (l .settings .vl) (length (b .vectors)) (length (l .predicates)) (length (b .scalars))
+
   told : accepted l b ≡ true → Accepted l b
   unfolding accepted
   told h =
-      let t = all-of (acceptedTests l b) h in
-      let v = all-of (lengthTests (l .settings .vl)) (t 0) in
+      let t = all-of tests (and-left (allOf tests) _ h) in
       record {
-        multiple = eqb-true _ _ (v 0);
-        least = leb-true _ _ (v 1);
-        most = leb-true _ _ (v 2);
+        allowed = length-exactly (l .settings .vl) .0 (t 0);
         vectors = eqb-true _ _ (t 1);
         predicates = eqb-true _ _ (t 2);
         scalars = eqb-true _ _ (t 3);
-        taken = taken-exactly (areas l b) .0 (t 4);
+        taken = taken-exactly (areas l b) .0 (and-right (allOf tests) _ h);
       }
 
   met : Accepted l b → accepted l b ≡ true
   unfolding accepted
   met a =
-      all-hold (acceptedTests l b) (
-        all-hold (lengthTests (l .settings .vl)) (eq-eqb _ _ (a .multiple), (le-leb _ _ (a .least), (le-leb _ _ (a .most), tt))),
-        (eq-eqb _ _ (a .vectors), (eq-eqb _ _ (a .predicates), (eq-eqb _ _ (a .scalars), (taken-exactly (areas l b) .1 (a .taken), tt)))),
-      )
+      both (allOf tests) _
+      (all-hold tests (
+        length-exactly (l .settings .vl) .1 (a .allowed),
+        (eq-eqb _ _ (a .vectors), (eq-eqb _ _ (a .predicates), (eq-eqb _ _ (a .scalars), tt))),
+      ))
+      (taken-exactly (areas l b) .1 (a .taken))
 
   pub accepted-exactly : (accepted l b ≡ true) ↔ Accepted l b
   accepted-exactly = (told, met)

@@ -14,33 +14,19 @@ use borrow.Author.Tests.{eq-eqb, eqb-true, ltb-true, lt-ltb}
 use Rattle.ground.specs.Choices.{if_then_else_}
 use Rattle.ground.specs.Lists.{anyBelow}
 use Rattle.ground.proofs.Laws.{never, if-cases, any-of, any-at, and-left, and-right, both}
+use Rattle.ground.proofs.Sizes.{bytes-some, in-lanes, register-room}
 use Rattle.ground.specs.Sizes.{bytesOf}
 use Rattle.ground.specs.declared.Size.{Size}
-use Rattle.ground.specs.declared.Size.the-variants.{B8, B16, B32, B64}
 use Rattle.loads.specs.Insns.{Insn, Shape, Replicate, ByElement, Contiguous, Block, Governing, None, By}
 use Rattle.words.specs.Ranges.{ShapeInRange}
 use Rattle.loads.specs.Benches.{Lent}
 use Rattle.loads.specs.Terms.{blockBytes}
 use Rattle.loads.specs.Plans.{spreadOf, planWith}
 use Rattle.loads.specs.Lanes.{predicateOf, governing, bitOf, laneActive, wanted, takes, checksStack}
-use Rattle.loads.specs.Said.{L, N, K, BitSet, ActiveAs, ChecksAs}
+use Rattle.loads.specs.Said.{LengthAllowed, L, N, K, BitSet, ActiveAs, ChecksAs}
 use Rattle.loads.specs.Given.{WideAs}
 use Rattle.loads.specs.Leaves.{TakesAs}
 use Rattle.loads.specs.declared.Plan.{Plan}
-
--- a lane of the register has its bit in the register's VL/64 bytes
-lane-within : (s : Size) (vl e : ℕ) → vl % 128 ≡ 0 → e < vl / (8 * bytesOf s) → e * bytesOf s / 8 < vl / 64
-lane-within B8 vl e h k = omega arith
-lane-within B16 vl e h k = omega arith
-lane-within B32 vl e h k = omega arith
-lane-within B64 vl e h k = omega arith
-
--- the lanes of n bytes
-in-lanes : (s : Size) (n k : ℕ) → n % 8 ≡ 0 → (k < n / bytesOf s) ↔ (k * bytesOf s < n)
-in-lanes B8 n k h = (λ q. omega arith, λ q. omega arith)
-in-lanes B16 n k h = (λ q. omega arith, λ q. omega arith)
-in-lanes B32 n k h = (λ q. omega arith, λ q. omega arith)
-in-lanes B64 n k h = (λ q. omega arith, λ q. omega arith)
 
 -- a block is of 16 or 32 bytes, and has a lane
 pub block-bytes : (wide : Bool) → (blockBytes wide % 8 ≡ 0) × (0 < blockBytes wide)
@@ -48,10 +34,11 @@ block-bytes false = (refl, lit< tt)
 block-bytes true = (refl, lit< tt)
 
 pub block-some : (wide : Bool) (s : Size) → 0 < blockBytes wide / bytesOf s
-block-some wide s = let b = block-bytes wide in in-lanes s (blockBytes wide) 0 (b .0) .1 (rw zero-mul (b .1))
+block-some wide s = let b = block-bytes wide in in-lanes s (blockBytes wide) (b .0) 0 .1 (rw zero-mul (b .1))
 
-block-within : (wide : Bool) (s : Size) (vl e : ℕ) → 128 ≤ vl → (wide ≡ true → 256 ≤ vl) → e < blockBytes wide / bytesOf s → e * bytesOf s / 8 < vl / 64
-block-within wide s vl e h long k = go wide long (in-lanes s (blockBytes wide) e (block-bytes wide .0) .0 k)
+block-within : (wide : Bool) (s : Size) (vl e : ℕ) → 128 ≤ vl → (wide ≡ true → 256 ≤ vl) → e < blockBytes wide / bytesOf s
+    → e * bytesOf s / 8 < vl / 64
+block-within wide s vl e h long k = go wide long (in-lanes s (blockBytes wide) (block-bytes wide .0) e .0 k)
   where
     go : (wide : Bool) → (wide ≡ true → 256 ≤ vl) → e * bytesOf s < blockBytes wide → e * bytesOf s / 8 < vl / 64
     go false w q = omega arith
@@ -67,7 +54,8 @@ replicated-bytes (suc zero) h = refl
 replicated-bytes (suc (suc q)) h = absurd (omega arith)
 
 -- a bit of the governing predicate is a bit of the file
-bit-set : (l : Lent) (g : Governing) (n : ℕ) → n / 8 < l .settings .vl / 64 → (bitOf (predicateOf (l .settings .vl / 64) (l .predicates) g) n ≡ true) ↔ BitSet l g n
+bit-set : (l : Lent) (g : Governing) (n : ℕ) → n / 8 < l .settings .vl / 64
+    → (bitOf (predicateOf (l .settings .vl / 64) (l .predicates) g) n ≡ true) ↔ BitSet l g n
 unfolding bitOf
 bit-set l None n there = (λ h. never h (simp zero-div), λ h. absurd h)
 bit-set l (By g) n there =
@@ -95,16 +83,16 @@ module _ (l : Lent) (p : Plan) where
     λ r. any-of (laneActive p (governing l p)) n (r .0) (r .1) (lane-active (r .0) (there (r .0) (r .1)) .1 (r .2)),
   )
 
-module _ (l : Lent) (x : List ℕ) (multiple : l .settings .vl % 128 ≡ 0) (least : 128 ≤ l .settings .vl) (i : Insn) where
+module _ (l : Lent) (x : List ℕ) (allowed : LengthAllowed (l .settings .vl)) (i : Insn) where
   abbrev plan : Shape → Plan
   plan s = planWith i (spreadOf (l .settings .vl) x i s)
 
-  -- the lanes of a register, and of a block
+  -- a lane of the register has its bit in the predicate's VL/64 bytes, and so has a lane of a block
   each-lane : (e : ℕ) → e < N l i → e * L i / 8 < l .settings .vl / 64
-  each-lane e h = lane-within (i .element .lane) (l .settings .vl) e multiple h
+  each-lane e h = omega (arith, register-room (l .settings .vl) (L i) e h, bytes-some (i .element .lane), allowed .multiple)
 
   each-own : (wide : Bool) → (wide ≡ true → 256 ≤ l .settings .vl) → (e : ℕ) → e < K wide i → e * L i / 8 < l .settings .vl / 64
-  each-own wide long e h = block-within wide (i .element .lane) (l .settings .vl) e least long h
+  each-own wide long e h = block-within wide (i .element .lane) (l .settings .vl) e (allowed .least) long h
 
   own-some : (wide : Bool) → 0 < K wide i
   own-some wide = block-some wide (i .element .lane)
@@ -140,24 +128,25 @@ module _ (l : Lent) (x : List ℕ) (multiple : l .settings .vl % 128 ≡ 0) (lea
   takes-there (Replicate q back) fine long k e h t =
       let n : ℕ = if eqb q 1 then 16 else 8 in
       let r = replicated-bytes q (fine .0) in
-      (rw (lt-ltb k (n / L i) (in-lanes (i .element .lane) n k (eighth q) .1 (rw r (t .1)))), mod-one k ∙ sym (t .0))
+      (rw (lt-ltb k (n / L i) (in-lanes (i .element .lane) n (eighth q) k .1 (rw r (t .1)))), mod-one k ∙ sym (t .0))
   takes-there (ByElement imm6) fine long k e h t =
       (both (ltb k (N l i)) _ (lt-ltb k _ h) (lane-active l (plan (ByElement imm6)) k (each-lane k h) .1 (t .1)), mod-one k ∙ sym (t .0))
   takes-there (Contiguous o) fine long k e h t =
-      (both (ltb k (N l i)) _ (lt-ltb k _ h) (rw (mod-eq-of-lt h) (lane-active l (plan (Contiguous o)) k (each-lane k h) .1 (t .1))), mod-eq-of-lt h ∙ sym (t .0))
+      let on = lane-active l (plan (Contiguous o)) k (each-lane k h) .1 (t .1) in
+      (both (ltb k (N l i)) _ (lt-ltb k _ h) (rw (mod-eq-of-lt h) on), mod-eq-of-lt h ∙ sym (t .0))
   takes-there (Block wide o) fine long k e h t = (
     both (ltb k (plan (Block wide o) .filled)) _ (lt-ltb k _ (div-lt-iff-lt-mul (own-some wide) .0 (t .1)))
         (lane-active l (plan (Block wide o)) (k % K wide i) (each-own wide long _ (mod-lt k (own-some wide))) .1 (t .2)),
     sym (t .0),
   )
 
-  pub there-takes : (s : Shape) → ShapeInRange i s → (WideAs s → 256 ≤ l .settings .vl) → (k : ℕ) → k < N l i → takes (plan s) (governing l (plan s)) k ≡ true
-      → TakesAs s l i k (k % plan s .elements)
+  pub there-takes : (s : Shape) → ShapeInRange i s → (WideAs s → 256 ≤ l .settings .vl) → (k : ℕ) → k < N l i
+      → takes (plan s) (governing l (plan s)) k ≡ true → TakesAs s l i k (k % plan s .elements)
   unfolding spreadOf takes
   there-takes (Replicate q back) fine long k h t =
       let n : ℕ = if eqb q 1 then 16 else 8 in
       let r = replicated-bytes q (fine .0) in
-      (mod-one k, rw r at (in-lanes (i .element .lane) n k (eighth q) .0 (ltb-true k _ (and-left (ltb k (n / L i)) _ t))))
+      (mod-one k, rw r at (in-lanes (i .element .lane) n (eighth q) k .0 (ltb-true k _ (and-left (ltb k (n / L i)) _ t))))
   there-takes (ByElement imm6) fine long k h t =
       (mod-one k, lane-active l (plan (ByElement imm6)) k (each-lane k h) .0 (and-right (ltb k (N l i)) _ t))
   there-takes (Contiguous o) fine long k h t =
@@ -165,7 +154,8 @@ module _ (l : Lent) (x : List ℕ) (multiple : l .settings .vl % 128 ≡ 0) (lea
   there-takes (Block wide o) fine long k h t = (
     refl,
     div-lt-iff-lt-mul (own-some wide) .1 (ltb-true k _ (and-left (ltb k (plan (Block wide o) .filled)) _ t)),
-    lane-active l (plan (Block wide o)) (k % K wide i) (each-own wide long _ (mod-lt k (own-some wide))) .0 (and-right (ltb k (plan (Block wide o) .filled)) _ t),
+    lane-active l (plan (Block wide o)) (k % K wide i) (each-own wide long _ (mod-lt k (own-some wide))) .0
+        (and-right (ltb k (plan (Block wide o) .filled)) _ t),
   )
 
   -- and that element is active

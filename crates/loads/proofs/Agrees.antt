@@ -84,7 +84,7 @@ module _ (l : Lent) (b : Bench) (l′ : Lent) (b′ : Bench) (taken : Accepted l
 
     touched : (e k : ℕ) → Wanted e → k < bytesOf (p .size) → Touched l w b (plusOf (elementAt p e) k)
     touched e k h q =
-        let a = active l (b .scalars) (taken .multiple) (taken .least) i (i .shape) (ready .defined .long) e .0 h in
+        let a = active l (b .scalars) (taken .allowed) i (i .shape) (ready .defined .long) e .0 h in
         record { load = i; ready = ready; element = e; active = a; byte = k; within = q; lies = byte-lies l (b .scalars) i e k a }
 
     same-troubles : (e : ℕ) → Wanted e → troubleOf (answersOf l b p e) ≡ troubleOf (answersOf l′ b′ p e)
@@ -101,7 +101,7 @@ module _ (l : Lent) (b : Bench) (l′ : Lent) (b′ : Bench) (taken : Accepted l
         ∙ ap (surveyOf (answersOf l′ b′ p) p) (same-governing p)
 
     some : 0 < p .elements
-    some = let fine = in-range-of w i (ready .defined .reads) in sound (l .settings .vl) (b .scalars) (taken .least) (taken .most) i fine (i .shape) (fine .shape) .some
+    some = let fine = in-range-of w i (ready .defined .reads) in sound (l .settings .vl) (b .scalars) (taken .allowed) i fine (i .shape) (fine .shape) .some
 
     afters : SameBytes l w b l′ b′ → Same l (benchAfter (answersOf l b p) l b p) l′ (benchAfter (answersOf l′ b′ p) l′ b′ p)
     unfolding benchAfter

@@ -4,7 +4,7 @@ use mathlib.Core.Path.{_≡_, refl, ap}
 use mathlib.Core.Bool.{Bool, true, false}
 use mathlib.Core.Logic.{⊎-elim}
 use Prim.Native.Nat.{ℕ, suc, _+_, _-_, _*_, _/_, _%_, _^_, _<_}
-use native.Mathlib.Nat.{div-add-mod', suc-mul, add-assoc}
+use native.Mathlib.Nat.{mod-lt, div-add-mod', div-lt-iff-lt-mul, suc-mul, add-assoc}
 use native.Mathlib.Omega.{arith}
 use lib.Dec.{eqb, ltb, leb}
 use lib.ListN.{getD}
@@ -12,9 +12,7 @@ use lib.Seq.{ext-getD}
 use borrow.Author.Tests.{eqb-true, eqb-false, ltb-true, ltb-false, leb-true, leb-false}
 use Rattle.ground.proofs.Laws.{true-or-false, never, only-one, little-tells}
 use Rattle.ground.specs.Lists.{little}
-use Rattle.ground.specs.Sizes.{bytesOf}
-use Rattle.ground.specs.declared.Size.{Size}
-use Rattle.ground.specs.declared.Size.the-variants.{B8, B16, B32, B64}
+use Rattle.ground.proofs.Sizes.{bytes-some, register-room, register-lanes}
 use Rattle.loads.specs.Insns.{Insn}
 use Rattle.memory.specs.Addresses.{wrap}
 use Rattle.memory.specs.Areas.{Area, Areas}
@@ -32,7 +30,6 @@ use Rattle.loads.specs.Leaves.{Takes, laneIn, Extends, Contains, Element
 use Rattle.loads.specs.declared.Plan.{Plan}
 use Rattle.loads.proofs.Fields.{adds-back, back-adds}
 use Rattle.loads.proofs.Actives.{takes-there, there-takes, taken-active}
-use Rattle.loads.proofs.Results.{whole}
 use Rattle.loads.proofs.Runs.{in-range-of}
 
 -- every number of the areas is a byte, as in every lent slice
@@ -47,13 +44,6 @@ extended-once true bits lane v x y p q =
     (λ t. let h = ltb-true v (2 ^ (bits - 1)) t in only-one (p .0 h) (q .0 h))
     (λ t. let h = ltb-false v (2 ^ (bits - 1)) t in omega (arith, p .1 h, q .1 h))
     (true-or-false (ltb v (2 ^ (bits - 1))))
-
--- byte q of a register lies in a lane of it
-lane-of : (s : Size) (vl q : ℕ) → vl % 128 ≡ 0 → q < vl / 8 → (q / bytesOf s < vl / (8 * bytesOf s)) × (q % bytesOf s < bytesOf s)
-lane-of B8 vl q h k = (omega arith, omega arith)
-lane-of B16 vl q h k = (omega arith, omega arith)
-lane-of B32 vl q h k = (omega arith, omega arith)
-lane-of B64 vl q h k = (omega arith, omega arith)
 
 module _ (l : Lent) (w : ℕ) (b : Bench) (i : Insn) (ready : Ready l w b i) (all : AllReadable l b i) (octets : Octets (areas l b)) where
   abbrev plan : Plan
@@ -88,11 +78,12 @@ module _ (l : Lent) (w : ℕ) (b : Bench) (i : Insn) (ready : Ready l w b i) (al
         ⊎-elim
         (λ t.
         let e = k % plan .elements in
-        let u = there-takes l (b .scalars) (a .multiple) (a .least) i (i .shape) (fine .shape) long k h t in
-        let v = value e (taken-active l (b .scalars) (a .multiple) (a .least) i (i .shape) k e h u) in
+        let u = there-takes l (b .scalars) (a .allowed) i (i .shape) (fine .shape) long k h t in
+        let v = value e (taken-active l (b .scalars) (a .allowed) i (i .shape) k e h u) in
         extended-once (i .element .signed) _ _ _ _ _ (p .lane k e _ h u v) (q .lane k e _ h u v))
         (λ t.
-        let none : (e : ℕ) → Takes l i k e → ⊥ = λ e u. never (takes-there l (b .scalars) (a .multiple) (a .least) i (i .shape) (fine .shape) long k e h u .0) t in
+        let none : (e : ℕ) → Takes l i k e → ⊥ =
+        λ e u. never (takes-there l (b .scalars) (a .allowed) i (i .shape) (fine .shape) long k e h u .0) t in
         only-one (p .zero k h none) (q .zero k h none))
         (true-or-false (takes plan (governing l plan) k))
 
@@ -101,11 +92,15 @@ module _ (l : Lent) (w : ℕ) (b : Bench) (i : Insn) (ready : Ready l w b i) (al
     in-lane j h =
         let t = i .target * n in
         let k = j / L i in
-        let o = lane-of (i .element .lane) (l .settings .vl) j (ready .defined .accepted .multiple) h in
-        let there : (x : ℕ) → x < L i → k * L i + x < n = λ x u. whole (i .element .lane) (l .settings .vl) k x (ready .defined .accepted .multiple) (o .0) u in
+        let some = bytes-some (i .element .lane) in
+        let whole = register-lanes (i .element .lane) (l .settings .vl) (ready .defined .accepted .allowed .multiple) in
+        let o : k < N l i = div-lt-iff-lt-mul some .1 (rw whole h) in
+        let there : (x : ℕ) → x < L i → k * L i + x < n = λ x u. omega (arith, register-room (l .settings .vl) (L i) k o) in
         let at : t + k * L i + j % L i ≡ t + j = omega (arith, div-add-mod' j (L i)) in
         rw at at (little-tells (λ x. getD (b₁ .vectors) x 0) (λ x. getD (b₂ .vectors) x 0) (t + k * L i) (t + k * L i) (L i)
-        (λ x u. rw add-assoc (p .bytes (k * L i + x) (there x u))) (λ x u. rw add-assoc (q .bytes (k * L i + x) (there x u))) (same-lane k (o .0)) (j % L i) (o .1))
+        (λ x u. rw add-assoc (p .bytes (k * L i + x) (there x u)))
+        (λ x u. rw add-assoc (q .bytes (k * L i + x) (there x u)))
+        (same-lane k o) (j % L i) (mod-lt j some))
 
     same-byte : (j : ℕ) → getD (b₁ .vectors) j 0 ≡ getD (b₂ .vectors) j 0
     same-byte j =

@@ -3,7 +3,7 @@ use mathlib.Core.Path.{_≡_, refl}
 use mathlib.Core.Bool.{true}
 use mathlib.Core.List.{List}
 use mathlib.Core.Logic.{⊎-elim}
-use native.Mathlib.Nat.{div-div-eq-div-mul}
+use native.Mathlib.Nat.{div-le-self, div-div-eq-div-mul}
 use Prim.Native.Nat.{ℕ, _*_, _/_, _≤_}
 use native.Mathlib.Omega.{arith}
 use lib.Dec.{eqb}
@@ -11,7 +11,6 @@ use borrow.Author.Tests.{eq-eqb, ne-eqb, eqb-true, eqb-false}
 use Rattle.ground.proofs.Laws.{never, true-or-false, if-cases}
 use Rattle.ground.specs.Sizes.{bytesOf}
 use Rattle.ground.specs.declared.Size.{Size}
-use Rattle.ground.specs.declared.Size.the-variants.{B8, B16, B32, B64}
 use Rattle.loads.specs.Insns.{Insn, Shape, Replicate, ByElement, Contiguous, Block, Keep, Post}
 use Rattle.loads.specs.Terms.{blockBytes}
 use Rattle.loads.specs.Plans.{spreadOf}
@@ -19,16 +18,9 @@ use Rattle.loads.specs.Given.{most}
 use Rattle.loads.specs.Leaves.{AddsAs}
 use Rattle.loads.specs.Leaves as S
 
--- no load has more than 256 elements: a register has at most 256 bytes, and a block has fewer
-lanes-few : (s : Size) (n : ℕ) → n / bytesOf s ≤ n
-lanes-few B8 n = omega arith
-lanes-few B16 n = omega arith
-lanes-few B32 n = omega arith
-lanes-few B64 n = omega arith
-
--- a register has no more lanes of any size
+-- no load has more than 256 elements: a register has at most 256 bytes, and no more lanes of any size; a block has fewer
 pub lanes-most : (s : Size) (vl : ℕ) → vl ≤ 2048 → vl / (8 * bytesOf s) ≤ most
-lanes-most s vl h = omega (arith, lanes-few s (vl / 8), div-div-eq-div-mul vl 8 (bytesOf s))
+lanes-most s vl h = omega (arith, div-le-self (vl / 8) (bytesOf s), div-div-eq-div-mul vl 8 (bytesOf s))
 
 module _ (vl : ℕ) (x : List ℕ) (i : Insn) where
   pub few : (s : Shape) → vl ≤ 2048 → spreadOf vl x i s .elements ≤ most
@@ -38,7 +30,7 @@ module _ (vl : ℕ) (x : List ℕ) (i : Insn) where
   few (Contiguous o) h = lanes-most (i .element .lane) vl h
   few (Block wide o) h =
       let b = if-cases (λ (n : ℕ). n ≤ 32) wide 32 16 (λ _. omega arith) (λ _. omega arith) in
-      omega (arith, lanes-few (i .element .lane) (blockBytes wide), b)
+      omega (arith, div-le-self (blockBytes wide) (bytesOf (i .element .lane)), b)
 
   -- the write-back is the scope's
   pub adds-back : (s : Shape) (a : ℕ) → AddsAs x i s a → (spreadOf vl x i s .back ≡ true) × (spreadOf vl x i s .amount ≡ a)

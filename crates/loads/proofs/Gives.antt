@@ -221,7 +221,7 @@ module _ (l : Lent) (w : ℕ) (b : Bench) where
   fault-few i r e n q c =
       let a = r .defined .accepted in
       let h = asks l b i a (r .defined .long) e .1 q .0 in
-      omega (arith, counted-most (Active l i) c, few (l .settings .vl) (b .scalars) i (i .shape) (a .most), h)
+      omega (arith, counted-most (Active l i) c, few (l .settings .vl) (b .scalars) i (i .shape) (a .allowed .largest), h)
 
   few-of : (r : Report) → Given l w b r → r .count ≤ most
   few-of r (S.ran i ready all c) = counted-most (Active l i) c

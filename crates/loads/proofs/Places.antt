@@ -75,7 +75,11 @@ module _ (l : Lent) (x : List ℕ) (i : Insn) where
 -- a field of four bits as a number from -8 to 7: 8 more than it is the field and 8, modulo 16
 pub signed-field : (v : ℕ) → v < 16 → signed4 v +ℤ pos 8 ≡ pos ((v + 8) % 16)
 unfolding signed4
-signed-field v h = ⊎-elim (λ t. let k = ltb-true v 8 t in rw t (ap pos (omega arith))) (λ t. let k = ltb-false v 8 t in rw (t, lt-ltb v 16 h) (below (omega arith))) (true-or-false (ltb v 8))
+signed-field v h =
+    ⊎-elim
+    (λ t. let k = ltb-true v 8 t in rw t (ap pos (omega arith)))
+    (λ t. let k = ltb-false v 8 t in rw (t, lt-ltb v 16 h) (below (omega arith)))
+    (true-or-false (ltb v 8))
   where
     below : 8 ≤ v → subℕ 8 (suc (16 - suc v)) ≡ pos ((v + 8) % 16)
     below k = rw (le-ltb 8 (suc (16 - suc v)) (omega arith)) (ap pos (omega arith))

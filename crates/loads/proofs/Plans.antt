@@ -1,69 +1,60 @@
 -- Every plan of an instruction that was read is sound, at every vector length that is accepted.
-use mathlib.Core.Path.{_≡_}
 use mathlib.Core.List.{List}
-use Prim.Native.Nat.{ℕ, _*_, _/_, _%_, _≤_, _<_}
-use native.Mathlib.Nat.{mul-assoc, le-div-iff-mul-le, div-mul-le-self}
+use Prim.Native.Nat.{ℕ, _*_, _/_, _≤_, _<_}
+use native.Mathlib.Nat.{mul-le-mul-left, le-div-iff-mul-le, div-le-self, div-mul-le-self}
 use native.Mathlib.Omega.{arith}
 use lib.Dec.{eqb, lit<, lit≤}
+use Rattle.ground.specs.Choices.{if_then_else_}
 use Rattle.ground.proofs.Laws.{if-cases}
+use Rattle.ground.proofs.Sizes.{bytes-some, bytes-few}
 use Rattle.ground.specs.Sizes.{bytesOf}
 use Rattle.ground.specs.declared.Size.{Size}
-use Rattle.ground.specs.declared.Size.the-variants.{B8, B16, B32, B64}
 use Rattle.loads.specs.Insns.{Insn, Shape, Replicate, ByElement, Contiguous, Block}
 use Rattle.words.specs.Ranges.{ShapeInRange, InsnInRange}
 use Rattle.loads.specs.Terms.{blockBytes}
-use Rattle.loads.specs.Plans.{spreadOf, planWith}
-use Rattle.loads.specs.Sounds.{Sound}
+use Rattle.loads.specs.Plans.{Spread, lanesIn, spreadOf, planWith}
+use Rattle.loads.specs.Said.{LengthAllowed}
+use Rattle.loads.specs.Sounds.{GovernedIn, Sound}
 use Rattle.loads.proofs.Fields.{few, lanes-most}
-use Rattle.loads.proofs.Actives.{block-bytes, block-some}
+use Rattle.loads.proofs.Actives.{block-some}
 
--- a register has a lane of each size, and 16 bytes are in it
-sixteen : (s : Size) (vl n : ℕ) → 128 ≤ vl → n ≤ 16 → n / bytesOf s ≤ vl / (8 * bytesOf s)
-sixteen B8 vl n h k = omega arith
-sixteen B16 vl n h k = omega arith
-sixteen B32 vl n h k = omega arith
-sixteen B64 vl n h k = omega arith
+-- a register has a lane of each size
+lane-some : (s : Size) (vl : ℕ) → 128 ≤ vl → 0 < lanesIn vl s
+lane-some s vl h = let some : 0 < 8 * bytesOf s = omega (arith, bytes-some s) in le-div-iff-mul-le some .1 (omega (arith, bytes-few s))
 
-lane-some : (s : Size) (vl : ℕ) → 128 ≤ vl → 0 < vl / (8 * bytesOf s)
-lane-some B8 vl h = omega arith
-lane-some B16 vl h = omega arith
-lane-some B32 vl h = omega arith
-lane-some B64 vl h = omega arith
+-- whole blocks of n bytes are no more lanes of w bytes than the register has bytes
+pub blocks-few : (vl n w : ℕ) → vl ≤ 2048 → vl / (8 * n) * (n / w) ≤ 256
+blocks-few vl n w h = omega (arith, mul-le-mul-left (vl / (8 * n)) (div-le-self n w), div-mul-le-self vl (8 * n))
 
-bits-some : (s : Size) → 0 < 8 * bytesOf s
-bits-some B8 = lit< tt
-bits-some B16 = lit< tt
-bits-some B32 = lit< tt
-bits-some B64 = lit< tt
+module _ (vl : ℕ) (x : List ℕ) (allowed : LengthAllowed vl) (i : Insn) (fine : InsnInRange i) where
+  -- a plan is sound where what its shape decides is in range
+  sound-with : (s : Spread) → 0 < s .elements → s .elements ≤ 256 → s .filled ≤ 256 → GovernedIn (s .rule) (i .governing) → s .consulted ≤ 256
+      → Sound (planWith i s)
+  sound-with s some few filled governed consulted =
+      record {
+        some = some;
+        few = few;
+        filled = filled;
+        narrower = fine .narrower;
+        governed = governed;
+        consulted = consulted;
+        base = fine .base;
+        target = fine .target;
+      }
 
-lanes-bits : (s : Size) (n : ℕ) → n % 8 ≡ 0 → n / bytesOf s * (8 * bytesOf s) ≡ 8 * n
-lanes-bits B8 n h = omega arith
-lanes-bits B16 n h = omega arith
-lanes-bits B32 n h = omega arith
-lanes-bits B64 n h = omega arith
-
--- whole blocks of n bytes are lanes of the register
-blocks-in : (s : Size) (vl n : ℕ) → n % 8 ≡ 0 → vl / (8 * n) * (n / bytesOf s) ≤ vl / (8 * bytesOf s)
-blocks-in s vl n h =
-    le-div-iff-mul-le (bits-some s) .1
-    (rw (mul-assoc, lanes-bits s n h) (div-mul-le-self vl (8 * n)))
-
-module _ (vl : ℕ) (x : List ℕ) (least : 128 ≤ vl) (most : vl ≤ 2048) where
-  -- as many lanes as a register has are no more than 256
-  at-most : (s : Size) {n : ℕ} → n ≤ vl / (8 * bytesOf s) → n ≤ 256
-  at-most s h = omega (arith, lanes-most s vl most, h)
-
-  module _ (i : Insn) (fine : InsnInRange i) where
-    pub sound : (s : Shape) → ShapeInRange i s → Sound (planWith i (spreadOf vl x i s))
-    unfolding spreadOf
-    sound (Replicate q back) h =
-        record { some = lit< tt; few = lit≤ tt; filled = at-most (i .element .lane) (sixteen (i .element .lane) vl _ least (if-cases (λ (n : ℕ). n ≤ 16) (eqb q 1) 16 8 (λ _. lit≤ tt) (λ _. lit≤ tt))); narrower = fine .narrower; governed = h .3; consulted = lit≤ tt; base = fine .base; target = fine .target }
-    sound (ByElement imm6) h =
-        let n = lanes-most (i .element .lane) vl most in
-        record { some = lit< tt; few = lit≤ tt; filled = n; narrower = fine .narrower; governed = h .1; consulted = n; base = fine .base; target = fine .target }
-    sound (Contiguous o) h =
-        let n = lanes-most (i .element .lane) vl most in
-        record { some = lane-some (i .element .lane) vl least; few = n; filled = n; narrower = fine .narrower; governed = h .1; consulted = n; base = fine .base; target = fine .target }
-    sound (Block wide o) h =
-        let k = few vl x i (Block wide o) most in
-        record { some = block-some wide (i .element .lane); few = k; filled = let b = block-bytes wide in at-most (i .element .lane) (blocks-in (i .element .lane) vl (blockBytes wide) (b .0)); narrower = fine .narrower; governed = h .1; consulted = k; base = fine .base; target = fine .target }
+  pub sound : (s : Shape) → ShapeInRange i s → Sound (planWith i (spreadOf vl x i s))
+  unfolding spreadOf
+  sound (Replicate q back) h =
+      let n : ℕ = if eqb q 1 then 16 else 8 in
+      let b = if-cases (λ (n : ℕ). n ≤ 16) (eqb q 1) 16 8 (λ _. lit≤ tt) (λ _. lit≤ tt) in
+      sound-with (spreadOf vl x i (Replicate q back)) (lit< tt) (lit≤ tt) (omega (arith, div-le-self n (bytesOf (i .element .lane)), b)) (h .3) (lit≤ tt)
+  sound (ByElement imm6) h =
+      let n = lanes-most (i .element .lane) vl (allowed .largest) in
+      sound-with (spreadOf vl x i (ByElement imm6)) (lit< tt) (lit≤ tt) n (h .1) n
+  sound (Contiguous o) h =
+      let n = lanes-most (i .element .lane) vl (allowed .largest) in
+      sound-with (spreadOf vl x i (Contiguous o)) (lane-some (i .element .lane) vl (allowed .least)) n n (h .1) n
+  sound (Block wide o) h =
+      let k = few vl x i (Block wide o) (allowed .largest) in
+      let n = blocks-few vl (blockBytes wide) (bytesOf (i .element .lane)) (allowed .largest) in
+      sound-with (spreadOf vl x i (Block wide o)) (block-some wide (i .element .lane)) k n (h .1) k

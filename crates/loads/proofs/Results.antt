@@ -2,19 +2,19 @@
 use mathlib.Core.Path.{_≡_, refl, sym, ap, _∙_}
 use mathlib.Core.Bool.{Bool, true, false}
 use mathlib.Core.List.{List}
-use Prim.Native.Nat.{ℕ, zero, suc, _+_, _-_, _*_, _/_, _%_, _^_, _≤_, _<_}
-use native.Mathlib.Nat.{zero-add, add-assoc, mod-eq-of-lt, mul-le-mul-right, pow-suc, suc-mul}
+use Prim.Native.Nat.{ℕ, suc, _+_, _-_, _*_, _/_, _%_, _^_, _≤_, _<_}
+use native.Mathlib.Nat.{zero-add, add-assoc, mod-eq-of-lt, div-one, mul-le-mul-right, suc-mul}
 use native.Mathlib.Omega.{arith}
 use lib.Arith.{digits-div, digits-mod}
 use lib.ListN.{length, getD, set, length-set}
-use lib.Pow.{pow-add, pow-mono}
+use lib.Pow.{pow-mono}
 use lib.Seq.{getD-set-same, getD-set-other}
 use borrow.Author.Tests.{le-leb, lt-leb}
 use Rattle.ground.specs.Lists.{replaced}
-use Rattle.ground.proofs.Laws.{if-cases, length-listed, getD-listed, length-replaced, replaced-below, replaced-in, replaced-above, little-digits, little-cong}
+use Rattle.ground.proofs.Laws.{if-cases, length-listed, getD-listed, length-replaced, replaced-below, replaced-in, replaced-above}
+use Rattle.ground.proofs.Laws.{little-digits, little-cong, pow-bytes}
+use Rattle.ground.proofs.Sizes.{register-room}
 use Rattle.ground.specs.Sizes.{bytesOf}
-use Rattle.ground.specs.declared.Size.{Size}
-use Rattle.ground.specs.declared.Size.the-variants.{B8, B16, B32, B64}
 use Rattle.memory.specs.Addresses.{plusOf}
 use Rattle.memory.specs.declared.Reading.{Reading}
 use Rattle.loads.specs.Benches.{Lent}
@@ -24,23 +24,16 @@ use Rattle.loads.specs.Outcomes.{extended, laneValue, registerByte, regi
 use Rattle.loads.specs.Leaves.{laneIn, Extends}
 use Rattle.loads.specs.declared.Plan.{Plan}
 
--- 256^n in bits
-pow-bits : (n : ℕ) → 256 ^ n ≡ 2 ^ (8 * n)
-pow-bits zero = refl
-pow-bits (suc n) =
-    let e : 8 * suc n ≡ 8 * n + 8 = omega arith in
-    rw (pow-suc, pow-bits n, e, pow-add 2 (8 * n) 8)
-
 -- the extended number fits its lane, and is the scope's
 module _ (a b v : ℕ) (narrower : a ≤ b) (small : v < 256 ^ a) where
   in-memory : v < 2 ^ (8 * a)
-  in-memory = rw pow-bits at small
+  in-memory = rw pow-bytes at small
 
   wider : 2 ^ (8 * a) ≤ 2 ^ (8 * b)
   wider = pow-mono (let h : 8 * a ≤ 8 * b = omega arith in h)
 
   in-lane : (x : ℕ) → x < 2 ^ (8 * b) → x % 256 ^ b ≡ x
-  in-lane x h = mod-eq-of-lt (rw pow-bits h)
+  in-lane x h = mod-eq-of-lt (rw pow-bytes h)
 
   pub extends : (signed : Bool) → Extends signed (8 * a) (8 * b) v (extended signed a b v % 256 ^ b)
   unfolding extended
@@ -50,15 +43,8 @@ module _ (a b v : ℕ) (narrower : a ≤ b) (small : v < 256 ^ a) where
     λ s. rw (le-leb (2 ^ (8 * a - 1)) v s, in-lane (v + (2 ^ (8 * b) - 2 ^ (8 * a))) (omega (arith, in-memory, wider))) (omega (arith, wider)),
   )
 
--- a register of n bytes is whole lanes
-pub whole : (s : Size) (vl k j : ℕ) → vl % 128 ≡ 0 → k < vl / (8 * bytesOf s) → j < bytesOf s → k * bytesOf s + j < vl / 8
-whole B8 vl k j h q r = omega arith
-whole B16 vl k j h q r = omega arith
-whole B32 vl k j h q r = omega arith
-whole B64 vl k j h q r = omega arith
-
 -- the register filled from any answers, in a file of 32 registers
-module _ (answer : ℕ → Reading) (l : Lent) (z : List ℕ) (p : Plan) (multiple : l .settings .vl % 128 ≡ 0) (file : length z ≡ 32 * (l .settings .vl / 8)) (t : p .target < 32) where
+module _ (answer : ℕ → Reading) (l : Lent) (z : List ℕ) (p : Plan) (file : length z ≡ 32 * (l .settings .vl / 8)) (t : p .target < 32) where
   abbrev n : ℕ
   n = l .settings .vl / 8
 
@@ -86,32 +72,40 @@ module _ (answer : ℕ → Reading) (l : Lent) (z : List ℕ) (p : Plan) (multip
 
   pub small : (j : ℕ) → j < n → getD after (p .target * n + j) 0 < 256
   unfolding registerOf registerByte
-  small j h = rw (replaced-in z (p .target * n) n bytes register-length room j 0 h, getD-listed (registerByte answer p (governing l p)) 0 n j 0 h) (omega arith)
+  small j h =
+      rw (replaced-in z (p .target * n) n bytes register-length room j 0 h, getD-listed (registerByte answer p (governing l p)) 0 n j 0 h)
+      (omega arith)
+
+  abbrev w : ℕ
+  w = bytesOf (p .lane)
+
+  abbrev value : ℕ → ℕ
+  value k = laneValue answer p (governing l p) k
 
   -- a byte of lane k is a digit of its value
-  digit : (k j : ℕ) → j < bytesOf (p .lane) → registerByte answer p (governing l p) (k * bytesOf (p .lane) + j) ≡ laneValue answer p (governing l p) k / 256 ^ j % 256
+  digit : (k j : ℕ) → j < w → registerByte answer p (governing l p) (k * w + j) ≡ value k / 256 ^ j % 256
   unfolding registerByte
   digit k j h = rw (digits-div k h, digits-mod k h)
 
-  lane-byte : (k j : ℕ) → k < l .settings .vl / (8 * bytesOf (p .lane)) → j < bytesOf (p .lane)
-      → getD after (p .target * n + k * bytesOf (p .lane) + j) 0 ≡ laneValue answer p (governing l p) k / 256 ^ j % 256
+  lane-byte : (k j : ℕ) → k < l .settings .vl / (8 * w) → j < w → getD after (p .target * n + k * w + j) 0 ≡ value k / 256 ^ j % 256
   unfolding registerOf
   lane-byte k j q h =
-      let i = k * bytesOf (p .lane) + j in
-      let inside = whole (p .lane) (l .settings .vl) k j multiple q h in
-      ap (λ (x : ℕ). getD after x 0) (add-assoc (p .target * n) (k * bytesOf (p .lane)) j)
+      let i = k * w + j in
+      let inside : i < n = omega (arith, register-room (l .settings .vl) w k q) in
+      ap (λ (x : ℕ). getD after x 0) (add-assoc (p .target * n) (k * w) j)
       ∙ replaced-in z (p .target * n) n bytes register-length room i 0 inside
       ∙ getD-listed (registerByte answer p (governing l p)) 0 n i 0 inside
       ∙ ap (registerByte answer p (governing l p)) (zero-add i)
       ∙ digit k j h
 
   -- so the number in lane k is the lane's value
-  pub lane-is : (k : ℕ) → k < l .settings .vl / (8 * bytesOf (p .lane)) → laneIn l after (p .target) (bytesOf (p .lane)) k ≡ laneValue answer p (governing l p) k % 256 ^ bytesOf (p .lane)
+  pub lane-is : (k : ℕ) → k < l .settings .vl / (8 * bytesOf (p .lane))
+      → laneIn l after (p .target) (bytesOf (p .lane)) k ≡ laneValue answer p (governing l p) k % 256 ^ bytesOf (p .lane)
   lane-is k q =
-      little-cong (λ j. getD after j 0) (λ j. laneValue answer p (governing l p) k / 256 ^ j % 256) (p .target * n + k * bytesOf (p .lane)) 0 (bytesOf (p .lane))
-      (λ j h. lane-byte k j q h ∙ ap (λ (x : ℕ). laneValue answer p (governing l p) k / 256 ^ x % 256) (sym (zero-add j)))
-      ∙ little-digits (laneValue answer p (governing l p) k) 0 (bytesOf (p .lane))
-      ∙ ap (λ (x : ℕ). x % 256 ^ bytesOf (p .lane)) (let e : laneValue answer p (governing l p) k / 1 ≡ laneValue answer p (governing l p) k = omega arith in e)
+      little-cong (λ j. getD after j 0) (λ j. value k / 256 ^ j % 256) (p .target * n + k * w) 0 w
+      (λ j h. lane-byte k j q h ∙ ap (λ (x : ℕ). value k / 256 ^ x % 256) (sym (zero-add j)))
+      ∙ little-digits (value k) 0 w
+      ∙ ap (λ (x : ℕ). x % 256 ^ w) (div-one (value k))
 
 -- the scalars
 module _ (p : Plan) (x : List ℕ) (count : length x ≡ 33) (b : p .base < 32) where

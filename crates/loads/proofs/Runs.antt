@@ -90,20 +90,20 @@ module _ (l : Lent) (w : ℕ) (b : Bench) (i : Insn) (ready : Ready l w b i) (al
   -- the number in lane k, in the scope's words
   lane-said : (k : ℕ) → k < N l i → laneIn l (after .vectors) (i .target) (L i) k ≡ laneValue answer plan (governing l plan) k % 256 ^ L i
   unfolding benchAfter
-  lane-said k = let a = ready .defined .accepted in lane-is answer l (b .vectors) plan (a .multiple) (a .vectors) in-file k
+  lane-said k = let a = ready .defined .accepted in lane-is answer l (b .vectors) plan (a .vectors) in-file k
 
   value-said : (k e v : ℕ) → k < N l i → Takes l i k e → answer e ≡ Value v → laneValue answer plan (governing l plan) k ≡ extended (i .element .signed) (m i) (L i) v
   unfolding laneValue
   value-said k e v h t r =
       let a = ready .defined .accepted in
-      let q = takes-there l (b .scalars) (a .multiple) (a .least) i (i .shape) (fine .shape) (ready .defined .long) k e h t in
+      let q = takes-there l (b .scalars) (a .allowed) i (i .shape) (fine .shape) (ready .defined .long) k e h t in
       rw (q .0, q .1, r)
 
   nothing-said : (k : ℕ) → k < N l i → ((e : ℕ) → Takes l i k e → ⊥) → laneValue answer plan (governing l plan) k ≡ 0
   unfolding laneValue
   nothing-said k h none =
       let a = ready .defined .accepted in
-      rw (off (takes plan (governing l plan) k) (λ t. none _ (there-takes l (b .scalars) (a .multiple) (a .least) i (i .shape) (fine .shape) (ready .defined .long) k h t)))
+      rw (off (takes plan (governing l plan) k) (λ t. none _ (there-takes l (b .scalars) (a .allowed) i (i .shape) (fine .shape) (ready .defined .long) k h t)))
 
   pub leaves : Leaves l b i l after
   unfolding benchAfter
@@ -112,14 +112,14 @@ module _ (l : Lent) (w : ℕ) (b : Bench) (i : Insn) (ready : Ready l w b i) (al
       let base = fine .base in
       record {
         lane = λ k e v h t c.
-            let q = taken-active l (b .scalars) (a .multiple) (a .least) i (i .shape) k e h t in
+            let q = taken-active l (b .scalars) (a .allowed) i (i .shape) k e h t in
             rw (lane-said k h, value-said k e v h t (read-as e v q c))
             (extends (m i) (L i) v (fine .narrower) (value-below e v c) (i .element .signed));
         zero = λ k h none. rw (lane-said k h, nothing-said k h none) (zero-mod _);
-        bytes = small answer l (b .vectors) plan (a .multiple) (a .vectors) in-file;
-        below = kept-below answer l (b .vectors) plan (a .multiple) (a .vectors) in-file;
-        above = kept-above answer l (b .vectors) plan (a .multiple) (a .vectors) in-file;
-        vectors = kept-length answer l (b .vectors) plan (a .multiple) (a .vectors) in-file;
+        bytes = small answer l (b .vectors) plan (a .vectors) in-file;
+        below = kept-below answer l (b .vectors) plan (a .vectors) in-file;
+        above = kept-above answer l (b .vectors) plan (a .vectors) in-file;
+        vectors = kept-length answer l (b .vectors) plan (a .vectors) in-file;
         base = λ v d. let r = adds-back (l .settings .vl) (b .scalars) i (i .shape) (d .added) (d .adds) in
             written-back plan (b .scalars) (a .scalars) base (r .0)
             ∙ ap (λ (y : ℕ). wrap (scalar (b .scalars) (i .base) + y)) (r .1)

@@ -43,7 +43,7 @@ module _ (l : Lent) (b : Bench) (i : Insn) (a : Accepted l b) (long : Wide i →
   elements = plan .elements
 
   pub asks : (e : ℕ) → ((e < elements) × (want e ≡ true)) ↔ Active l i e
-  asks = active l (b .scalars) (a .multiple) (a .least) i (i .shape) long
+  asks = active l (b .scalars) (a .allowed) i (i .shape) long
 
   pub counts : (e : ℕ) → e ≤ elements → Counted (Active l i) e (many want 0 e)
   counts e h = counted want (Active l i) e (λ f k. (λ t. asks f .0 (omega arith, t), λ q. asks f .1 q .1))
@@ -53,7 +53,7 @@ module _ (l : Lent) (b : Bench) (i : Insn) (a : Accepted l b) (long : Wide i →
 
   pub counts-all : Counted (Active l i) most (many want 0 elements)
   counts-all =
-      let n : elements + (most - elements) ≡ most = let k = few (l .settings .vl) (b .scalars) i (i .shape) (a .most) in omega arith in
+      let n : elements + (most - elements) ≡ most = let k = few (l .settings .vl) (b .scalars) i (i .shape) (a .allowed .largest) in omega arith in
       rw n at (counts-beyond (most - elements))
 
   pub count-exists : (e : ℕ) → (n : ℕ) × Counted (Active l i) e n

@@ -37,7 +37,7 @@ module _ (l : Lent) (b : Bench) where
       → (stackFails (b .scalars) (plan i) (governing l (plan i)) ≡ true) ↔ ((i .base ≡ 31) × Checks l i × (scalar (b .scalars) 31 % 16 ≡ 0 → ⊥))
   unfolding stackFails
   stack-exactly a i long =
-      let c = checks l (b .scalars) (a .multiple) (a .least) i (i .shape) long in
+      let c = checks l (b .scalars) (a .allowed) i (i .shape) long in
       let made = checksStack (plan i) (governing l (plan i)) in (
         λ h.
             let f = and-left (eqb (i .base) 31 && made) _ h in

@@ -9,7 +9,7 @@ use Rattle.ground.proofs.Laws.{only-one}
 use Rattle.memory.specs.declared.Address.{Address}
 use Rattle.memory.specs.declared.Fault.the-variants.{Nowhere, Denied}
 use Rattle.memory.proofs.Unique.{address-unique as same-address}
-use Rattle.loads.specs.Benches.{lengthAllowed}
+use Rattle.loads.specs.Benches.{isLengthAllowed}
 use Rattle.loads.specs.Answers.{numberOf, elementOf, addressOf, Report, report, reportOf}
 use Rattle.loads.specs.declared.StepResult.{StepResult}
 use Rattle.loads.specs.declared.Answer.{Answer}
@@ -48,7 +48,7 @@ pub answers-told : (n : ℕ) (a : Address) (e : ℕ)
     ≡ report 0 n 0 0 ∷ report 1 n 0 0 ∷ report 2 n 0 0 ∷ report 3 n 0 0 ∷ report 4 n 0 0 ∷ report 5 n 0 0 ∷ report 6 n e (a .0) ∷ report 7 n e (a .0) ∷ []
 answers-told n a e = refl
 
-pub allowed-unique : (vl : ℕ) (r s : Bool) → r ≡ lengthAllowed vl → s ≡ lengthAllowed vl → r ≡ s
+pub allowed-unique : (vl : ℕ) (r s : Bool) → r ≡ isLengthAllowed vl → s ≡ isLengthAllowed vl → r ≡ s
 allowed-unique vl r s p q = only-one p q
 
 module _ (a : Answer) where

@@ -1,6 +1,6 @@
 -- "The lent bench", and which set-ups are accepted.
 use Prim.Native.Nat.{ℕ, _*_, _/_, _%_}
-use mathlib.Core.Bool.{Bool}
+use mathlib.Core.Bool.{Bool, _&&_}
 use mathlib.Core.List.{List, [], _∷_}
 use lib.Dec.{leb, eqb}
 use lib.ListN.{length}
@@ -31,19 +31,17 @@ areas l b = areasOf (l .map) (l .flash) (l .flashRights) (b .ram) (l .ramRights)
 abbrev pub lengthTests : ℕ → List Bool
 lengthTests vl = eqb (vl % 128) 0 ∷ leb 128 vl ∷ leb vl 2048 ∷ []
 
-abbrev pub lengthAllowed : ℕ → Bool
-lengthAllowed vl = allOf (lengthTests vl)
+abbrev pub isLengthAllowed : ℕ → Bool
+isLengthAllowed vl = allOf (lengthTests vl)
 
--- VL; 32 registers of VL/8 bytes; 16 registers of VL/64 bytes; 33 numbers; the areas
-abbrev pub acceptedTests : Lent → Bench → List Bool
-acceptedTests l b =
-    let vl = l .settings .vl in
-    lengthAllowed vl
-    ∷ eqb (length (b .vectors)) (32 * (vl / 8))
-    ∷ eqb (length (l .predicates)) (16 * (vl / 64))
-    ∷ eqb (length (b .scalars)) 33
-    ∷ areasTaken (areas l b)
-    ∷ []
+-- VL, and files of z bytes, p bytes and x numbers: 32 registers of VL/8 bytes; 16 registers of VL/64 bytes; 33 numbers
+abbrev pub fileTests : ℕ → ℕ → ℕ → ℕ → List Bool
+fileTests vl z p x = isLengthAllowed vl ∷ eqb z (32 * (vl / 8)) ∷ eqb p (16 * (vl / 64)) ∷ eqb x 33 ∷ []
+
+abbrev pub areFilesAccepted : ℕ → ℕ → ℕ → ℕ → Bool
+areFilesAccepted vl z p x = allOf (fileTests vl z p x)
 
 unfoldable pub accepted : Lent → Bench → Bool
-accepted l b = allOf (acceptedTests l b)
+accepted l b =
+    areFilesAccepted (l .settings .vl) (length (b .vectors)) (length (l .predicates)) (length (b .scalars))
+    && areasTaken (areas l b)

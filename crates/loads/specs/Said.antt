@@ -14,11 +14,15 @@ use Rattle.memory.specs.Said.{Holds, Right, Taken, Of}
 use Rattle.loads.specs.Benches.{Lent, Bench, areas}
 use Rattle.loads.specs.Terms.{signed4, scalar, blockBytes}
 
+-- "Vector length VL in bits: a multiple of 128, 128 to 2,048"
+pub record LengthAllowed (vl : ℕ) : Type 0 where
+  pub multiple : vl % 128 ≡ 0
+  pub least : 128 ≤ vl
+  pub largest : vl ≤ 2048
+
 -- "The lent bench": the set-ups that do not earn 1
 pub record Accepted (l : Lent) (b : Bench) : Type 0 where
-  pub multiple : l .settings .vl % 128 ≡ 0
-  pub least : 128 ≤ l .settings .vl
-  pub most : l .settings .vl ≤ 2048
+  pub allowed : LengthAllowed (l .settings .vl)
   pub vectors : length (b .vectors) ≡ 32 * (l .settings .vl / 8)
   pub predicates : length (l .predicates) ≡ 16 * (l .settings .vl / 64)
   pub scalars : length (b .scalars) ≡ 33

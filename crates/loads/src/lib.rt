@@ -4,7 +4,7 @@ use memory::Address;
 use memory::Fault;
 use words::Governing;
 ghost use mathlib.Core.Path.{_≡_};
-ghost use Rattle.loads.specs.Benches.{lengthAllowed};
+ghost use Rattle.loads.specs.Benches.{isLengthAllowed};
 ghost use Rattle.loads.specs.Answers.{faultNumber, numberOf, elementOf, addressOf};
 
 // The vector length in bits, and the switches.
@@ -17,7 +17,7 @@ pub struct Settings {
 
 // Whether a vector length is allowed.
 pub fn allowed(vl: u64) -> bool
-    ensures { λ r. ⌜ r ≡ lengthAllowed vl ⌝ }
+    ensures { λ r. ⌜ r ≡ isLengthAllowed vl ⌝ }
 {
     (vl % 128 == 0) & (128 <= vl) & (vl <= 2048)
 }

@@ -1,9 +1,9 @@
--- What keeps the arithmetic of a plan within its types: a vector and a block in bytes, the lanes that blocks fill, and a signed field
--- that counts blocks. And a sum is taken modulo 2^64 once.
+-- What keeps the arithmetic of a plan within its types: a vector and a block in bytes, and a signed field that counts blocks. And a sum is
+-- taken modulo 2^64 once.
 use mathlib.Core.Path.{_≡_, refl, _∙_}
 use mathlib.Core.Bool.{Bool, true, false}
 use Prim.Native.Nat.{ℕ, zero, suc, _+_, _*_, _/_, _^_, _≤_, _<_}
-use native.Mathlib.Nat.{le-trans, mul-le-mul, mul-le-mul-left, div-le-self}
+use native.Mathlib.Nat.{mul-le-mul, mul-le-mul-left, div-mul-le-self}
 use native.Mathlib.Omega.{arith}
 use lib.Dec.{ltb, lit≤}
 use lib.IntN.{ℤ, pos, negsuc, negℤ, natAbs, _-ℤ_, _*ℤ_}
@@ -12,9 +12,6 @@ use mir.Val.{SFits, toZ, ofZ}
 use mir.Facts.{toZ-ofZ, toZ-pos}
 use borrow.Author.Tests.{lt-ltb, ltb-true, ltb-false}
 use Rattle.ground.proofs.Laws.{if-cases}
-use Rattle.ground.specs.Sizes.{bytesOf}
-use Rattle.ground.specs.declared.Size.{Size}
-use Rattle.ground.specs.declared.Size.the-variants.{B8, B16, B32, B64}
 use Rattle.memory.specs.Addresses.{wrap}
 use Rattle.loads.specs.Terms.{signed4, blockBytes}
 
@@ -22,19 +19,12 @@ pub wrap-once : (a b : ℕ) → wrap (a + wrap b) ≡ wrap (a + b)
 wrap-once a b = omega arith
 
 -- where an element is no wider than its lane, a vector has at most 256 bytes in memory
-pub vector-few : (m l : Size) (vl : ℕ) → vl ≤ 2048 → bytesOf m ≤ bytesOf l → vl / (8 * bytesOf l) * bytesOf m ≤ 256
-vector-few m B8 vl h k = omega (arith, mul-le-mul-left (vl / 8) k)
-vector-few m B16 vl h k = omega (arith, mul-le-mul-left (vl / 16) k)
-vector-few m B32 vl h k = omega (arith, mul-le-mul-left (vl / 32) k)
-vector-few m B64 vl h k = omega (arith, mul-le-mul-left (vl / 64) k)
+pub vector-few : (m l vl : ℕ) → vl ≤ 2048 → m ≤ l → vl / (8 * l) * m ≤ 256
+vector-few m l vl h k = omega (arith, mul-le-mul-left (vl / (8 * l)) k, div-mul-le-self vl (8 * l))
 
 pub block-few : (wide : Bool) → (16 ≤ blockBytes wide) × (blockBytes wide ≤ 32)
 block-few true = (lit≤ tt, lit≤ tt)
 block-few false = (lit≤ tt, lit≤ tt)
-
--- the lanes that whole blocks of n bytes fill
-pub blocks-few : (vl n d : ℕ) → vl ≤ 2048 → n ≤ 32 → vl / (8 * n) * (n / d) ≤ 2048 * 32
-blocks-few vl n d h k = mul-le-mul (le-trans (div-le-self vl (8 * n)) h) (le-trans (div-le-self n d) k)
 
 -- a field of four bits is at most 8 away from 0
 near : (f : ℕ) → f < 16 → natAbs (signed4 f) ≤ 8

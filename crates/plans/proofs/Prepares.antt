@@ -2,7 +2,7 @@
 use mathlib.Core.Path.{_≡_, refl, subst}
 use mathlib.Core.Bool.{true, false, not, _&&_}
 use mathlib.Core.List.{List}
-use Prim.Native.Nat.{ℕ, _≤_}
+use Prim.Native.Nat.{ℕ}
 use lib.Dec.{ltb}
 use Rattle.ground.proofs.Laws.{only-one, if-cases}
 use Rattle.words.specs.Families.{readOf}
@@ -11,9 +11,10 @@ use Rattle.words.specs.declared.Decoded.{Decoded}
 use Rattle.words.specs.declared.Decoded.the-variants.{Outside, Undefined, Is}
 use Rattle.words.specs.Ranges.{InsnInRange, InRange}
 use Rattle.words.proofs.Ranges.{in-range}
-use Rattle.loads.specs.Benches.{lengthAllowed}
+use Rattle.loads.specs.Benches.{isLengthAllowed}
 use Rattle.loads.specs.Answers.{numberOf}
 use Rattle.loads.specs.Plans.{planOf}
+use Rattle.loads.specs.Said.{LengthAllowed}
 use Rattle.loads.specs.Sounds.{Sound}
 use Rattle.loads.specs.Steps.{isWide, switchedOn, refusals, plannedLoad, plannedBy, planned}
 use Rattle.loads.specs.declared.Answer.{Answer}
@@ -28,12 +29,13 @@ use Rattle.plans.specs.Prepares.{plannedFor}
 pub prepare-unique : (s : Settings) (x : List ℕ) (w : ℕ) (q r : Planned) → q ≡ plannedFor s x w → r ≡ plannedFor s x w → q ≡ r
 prepare-unique s x w q r e h = only-one e h
 
-pub allowed-planned : (s : Settings) (x : List ℕ) (w : ℕ) → lengthAllowed (s .vl) ≡ true → plannedFor s x w ≡ planned s x w
+pub allowed-planned : (s : Settings) (x : List ℕ) (w : ℕ) → isLengthAllowed (s .vl) ≡ true → plannedFor s x w ≡ planned s x w
 unfolding plannedFor
 allowed-planned s x w h = rw h
 
 -- "VL not allowed" earns 1
-pub not-allowed : (s : Settings) (x : List ℕ) (w : ℕ) → lengthAllowed (s .vl) ≡ false → (a : Answer) × (plannedFor s x w ≡ Stop a) × (numberOf a ≡ 1)
+pub not-allowed : (s : Settings) (x : List ℕ) (w : ℕ) → isLengthAllowed (s .vl) ≡ false
+    → (a : Answer) × (plannedFor s x w ≡ Stop a) × (numberOf a ≡ 1)
 unfolding plannedFor
 not-allowed s x w h = (SetUp, rw h, refl)
 
@@ -42,7 +44,8 @@ abbrev Holding : (Plan → Type 0) → Planned → Type 0
 Holding P (Stop a) = Unit {0}
 Holding P (Go p) = P p
 
-module _ (s : Settings) (x : List ℕ) (P : Plan → Type 0) (each : (i : Insn) → InsnInRange i → (isWide (i .shape) && ltb (s .vl) 256) ≡ false → P (planOf (s .vl) x i)) where
+module _ (s : Settings) (x : List ℕ) (P : Plan → Type 0)
+    (each : (i : Insn) → InsnInRange i → (isWide (i .shape) && ltb (s .vl) 256) ≡ false → P (planOf (s .vl) x i)) where
   of-load : (i : Insn) → InsnInRange i → Holding P (plannedLoad s x i)
   unfolding plannedLoad refusals
   of-load i h =
@@ -61,5 +64,5 @@ module _ (s : Settings) (x : List ℕ) (P : Plan → Type 0) (each : (i : Insn) 
   planned-each w p e = subst (Holding P) e (of-word (readOf w) (in-range w))
 
 -- a plan, where there is one, is sound
-pub planned-sound : (s : Settings) (x : List ℕ) → 128 ≤ s .vl → s .vl ≤ 2048 → (w : ℕ) (p : Plan) → planned s x w ≡ Go p → Sound p
-planned-sound s x least most = planned-each s x Sound (λ i h _. sound (s .vl) x least most i h (i .shape) (h .shape))
+pub planned-sound : (s : Settings) (x : List ℕ) → LengthAllowed (s .vl) → (w : ℕ) (p : Plan) → planned s x w ≡ Go p → Sound p
+planned-sound s x allowed = planned-each s x Sound (λ i h _. sound (s .vl) x allowed i h (i .shape) (h .shape))

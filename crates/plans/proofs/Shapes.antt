@@ -2,15 +2,14 @@
 use mathlib.Core.Path.{_≡_, refl, ap}
 use mathlib.Core.Bool.{Bool, true, false, _&&_}
 use mathlib.Core.List.{List}
-use Prim.Native.Nat.{ℕ, zero, suc, _*_, _/_, _%_, _≤_, _<_}
-use native.Mathlib.Nat.{zero-mul, one-mul, mul-assoc, mul-le-mul-right, div-div-eq-div-mul}
+use Prim.Native.Nat.{ℕ, _*_, _/_, _%_, _≤_, _<_}
+use native.Mathlib.Nat.{one-mul, mul-assoc, mul-le-mul-right, dvd-mul-right, pos-of-dvd-of-pos}
 use native.Mathlib.Omega.{arith}
 use borrow.Author.Tests.{ltb-false}
 use lib.Dec.{eqb, ltb, lit≤}
 use Rattle.ground.specs.Choices.{if_then_else_}
 use Rattle.ground.specs.Sizes.{bytesOf}
-use Rattle.ground.specs.declared.Size.{Size}
-use Rattle.ground.specs.declared.Size.the-variants.{B8, B16, B32, B64}
+use Rattle.ground.proofs.Sizes.{whole-lanes, register-lanes}
 use Rattle.words.specs.declared.Dtype.{Dtype}
 use Rattle.words.specs.declared.Insn.{Insn}
 use Rattle.words.specs.declared.Shape.{Shape}
@@ -18,6 +17,7 @@ use Rattle.words.specs.declared.Shape.the-variants.{Replicate, ByElement, Conti
 use Rattle.words.specs.Ranges.{ShapeInRange}
 use Rattle.loads.specs.Terms.{blockBytes}
 use Rattle.loads.specs.Plans.{lanesIn, spreadOf, planWith}
+use Rattle.loads.specs.Said.{LengthAllowed}
 use Rattle.loads.specs.Steps.{isWide, planned}
 use Rattle.loads.specs.declared.Plan.{Plan}
 use Rattle.loads.specs.declared.Planned.the-variants.{Go}
@@ -26,32 +26,19 @@ use Rattle.loads.proofs.Actives.{block-bytes}
 use Rattle.plans.specs.Shapes.{Shaped}
 use Rattle.plans.proofs.Prepares.{planned-each}
 
--- bytes of whole chunks are whole lanes of each size
-pub whole-lanes : (s : Size) (n : ℕ) → n % 8 ≡ 0 → n / bytesOf s * bytesOf s ≡ n
-whole-lanes B8 n h = omega arith
-whole-lanes B16 n h = omega arith
-whole-lanes B32 n h = omega arith
-whole-lanes B64 n h = omega arith
-
--- .. and so is a vector, which has some
-vector : (s : Size) (vl : ℕ) → vl % 128 ≡ 0 → lanesIn vl s * bytesOf s ≡ vl / 8
-vector s vl h =
-    let whole : vl / 8 % 8 ≡ 0 = omega arith in
-    rw (← div-div-eq-div-mul vl 8 (bytesOf s)) (whole-lanes s (vl / 8) whole)
-
 -- a factor of some is some
 pub factor-some : (k w n : ℕ) → k * w ≡ n → 0 < n → 0 < k
-factor-some zero w n e h = absurd (omega (arith, zero-mul w))
-factor-some (suc k) w n e h = omega arith
+factor-some k w n e h = pos-of-dvd-of-pos (rw e at (dvd-mul-right k w)) h
 
 -- LD1R fills 8 or 16 bytes
 replicates : (b : Bool) → (8 ≤ (if b then 16 else 8)) × ((if b then 16 else 8) ≤ 16) × (_≡_ {A = ℕ} ((if b then 16 else 8) % 8) 0)
 replicates true = (lit≤ tt, lit≤ tt, refl)
 replicates false = (lit≤ tt, lit≤ tt, refl)
 
-module _ (vl : ℕ) (multiple : vl % 128 ≡ 0) (least : 128 ≤ vl) where
+module _ (vl : ℕ) (allowed : LengthAllowed vl) where
   -- a block goes into a register, LD1RO's into one of 256 bits
-  block-in : (wide : Bool) → (wide && ltb vl 256) ≡ false → (vl / (8 * blockBytes wide) * blockBytes wide ≤ vl / 8) × (1 ≤ vl / (8 * blockBytes wide))
+  block-in : (wide : Bool) → (wide && ltb vl 256) ≡ false
+      → (vl / (8 * blockBytes wide) * blockBytes wide ≤ vl / 8) × (1 ≤ vl / (8 * blockBytes wide))
   block-in true long = let l = ltb-false vl 256 long in (omega arith, omega arith)
   block-in false long = (omega arith, omega arith)
 
@@ -62,12 +49,16 @@ module _ (vl : ℕ) (multiple : vl % 128 ≡ 0) (least : 128 ≤ vl) where
         let r = replicates (eqb q 1) in
         let n : ℕ = if eqb q 1 then 16 else 8 in
         let e = whole-lanes (i .element .lane) n (r .2) in
-        record { room = rw e (omega (arith, r .1)); shape = (refl, rw e (r .0), ap (λ (d : Dtype). d .lane) (h .2), ap (λ (d : Dtype). d .signed) (h .2)) }
+        record {
+          room = rw e (omega (arith, r .1));
+          shape = (refl, rw e (r .0), ap (λ (d : Dtype). d .lane) (h .2), ap (λ (d : Dtype). d .signed) (h .2));
+        }
     shaped (ByElement imm6) h long =
-        let e = vector (i .element .lane) vl multiple in
-        record { room = rw e (omega arith); shape = (refl, factor-some (lanesIn vl (i .element .lane)) (bytesOf (i .element .lane)) (vl / 8) e (omega arith), rw e (omega arith)) }
+        let e = register-lanes (i .element .lane) vl (allowed .multiple) in
+        let some = factor-some (lanesIn vl (i .element .lane)) (bytesOf (i .element .lane)) (vl / 8) e (omega arith) in
+        record { room = rw e (omega arith); shape = (refl, some, rw e (omega arith)) }
     shaped (Contiguous offset) h long =
-        let e = vector (i .element .lane) vl multiple in
+        let e = register-lanes (i .element .lane) vl (allowed .multiple) in
         record { room = rw e (omega arith); shape = (omega arith, rw e (omega arith)) }
     shaped (Block wide offset) h long =
         let b = block-in wide long in
@@ -78,5 +69,6 @@ module _ (vl : ℕ) (multiple : vl % 128 ≡ 0) (least : 128 ≤ vl) where
           shape = (omega (arith, one-mul k, mul-le-mul-right k (b .1)), rw e (block-bytes wide .0));
         }
 
-pub planned-shaped : (s : Settings) (x : List ℕ) → s .vl % 128 ≡ 0 → 128 ≤ s .vl → (w : ℕ) (p : Plan) → planned s x w ≡ Go p → Shaped p (s .vl / 8)
-planned-shaped s x multiple least = planned-each s x (λ p. Shaped p (s .vl / 8)) (λ i h long. shaped (s .vl) multiple least x i (i .shape) (h .shape) long)
+pub planned-shaped : (s : Settings) (x : List ℕ) → LengthAllowed (s .vl) → (w : ℕ) (p : Plan) → planned s x w ≡ Go p → Shaped p (s .vl / 8)
+planned-shaped s x allowed =
+    planned-each s x (λ p. Shaped p (s .vl / 8)) (λ i h long. shaped (s .vl) allowed x i (i .shape) (h .shape) long)

@@ -2,7 +2,7 @@
 use Prim.Native.Nat.{ℕ}
 use mathlib.Core.List.{List}
 use Rattle.ground.specs.Choices.{if_then_else_}
-use Rattle.loads.specs.Benches.{lengthAllowed}
+use Rattle.loads.specs.Benches.{isLengthAllowed}
 use Rattle.loads.specs.Steps.{planned}
 use Rattle.loads.specs.declared.Settings.{Settings}
 use Rattle.loads.specs.declared.Planned.{Planned}
@@ -10,4 +10,4 @@ use Rattle.loads.specs.declared.Planned.the-variants.{Stop}
 use Rattle.loads.specs.declared.Answer.the-variants.{SetUp}
 
 unfoldable pub plannedFor : Settings → List ℕ → ℕ → Planned
-plannedFor s x w = if lengthAllowed (s .vl) then planned s x w else Stop SetUp
+plannedFor s x w = if isLengthAllowed (s .vl) then planned s x w else Stop SetUp

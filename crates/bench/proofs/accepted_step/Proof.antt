@@ -14,7 +14,7 @@ accepted-step-spec =
     let g = c .before .before .before .before .before .before .before .before .before .before .before .before .before .before in
     let a = accepted-exactly _ _ .0 (g .pre) in
     let e = (prepares _ _ _ (g .pre) _ (c .before .before .before .before .before .prepare .ensures) ∙ c .before .before .before .plan .given .1) in
-    (g .pre, (planned-sound _ _ (a .least) (a .most) _ _ e, planned-shaped _ _ (a .multiple) (a .least) _ _ e)))
+    (g .pre, (planned-sound _ _ (a .allowed) _ _ e, planned-shaped _ _ (a .allowed) _ _ e)))
     (λ c. refl)
     (λ c. stops _ _ _ _ (prepares _ _ _ (c .before .before .before .before .before .before .before .before .before .before .before .before .before .pre) _ (c .before .before .before .before .prepare .ensures) ∙ c .before .before .answer .given .1) _ (c .ended .ensures))
     (λ c. c .before .before .before .z .given) (λ c. c .before .x .given)

@@ -7,6 +7,7 @@ use denote.Ref.{now}
 use lib.ListN.{length}
 use Rattle.loads.proofs.Accepts.{accepted-exactly}
 use Rattle.loads.specs.Lanes.{governing}
+use Rattle.loads.specs.Said.{LengthAllowed}
 use Rattle.bench.specs.Lends.{lentOf}
 use Rattle.bench.specs.Quick.{Fit}
 use Rattle.bench.proofs.Ends.{decided, at-stack, faulted, ran}
@@ -14,8 +15,8 @@ use Rattle.bench.proofs.carry.Statement.{statement}
 use Rattle.bench.proofs.carry.Tie as tie
 
 -- a predicate register has few bytes, a register is whole lanes, and a predicate decides over all of it
-lanes-in : (vl : ℕ) → vl ≤ 2048 → vl % 128 ≡ 0 → (vl / 64 ≤ 32) × (vl / 8 ≤ 256) × (vl / 8 % 8 ≡ 0) × (vl / 8 ≤ 8 * (vl / 64))
-lanes-in vl most multiple = (omega arith, omega arith, omega arith, omega arith)
+lanes-in : (vl : ℕ) → LengthAllowed vl → (vl / 64 ≤ 32) × (vl / 8 ≤ 256) × (vl / 8 % 8 ≡ 0) × (vl / 8 ≤ 8 * (vl / 64))
+lanes-in vl allowed = (omega arith, omega arith, omega arith, omega arith)
 
 -- the governing predicate that was found
 module _ (c : tie.After-governing) where
@@ -32,7 +33,7 @@ module _ (c : tie.After-governing) where
   fit : Fit (g .args .plan) pred (g .args .settings .vl / 8)
   fit =
       let a = accepted-exactly _ _ .0 (g .pre .0) in
-      let n = lanes-in (g .args .settings .vl) (a .most) (a .multiple) in
+      let n = lanes-in (g .args .settings .vl) (a .allowed) in
       record {
         sound = g .pre .1 .0;
         shaped = g .pre .1 .1;
@@ -47,7 +48,7 @@ carry-spec =
     (λ c κs.
     let g = c .before .before .before .before .before .before .before .before in
     let a = accepted-exactly _ _ .0 (g .pre .0) in
-    (g .pre .1 .0, (lanes-in (g .args .settings .vl) (a .most) (a .multiple) .0, a .predicates)))
+    (g .pre .1 .0, (lanes-in (g .args .settings .vl) (a .allowed) .0, a .predicates)))
     (λ c κs. let s = g (c .before) in (s .pre .1 .0, accepted-exactly _ _ .0 (s .pre .0) .scalars))
     (λ c κs. tt) (λ c. refl)
     (λ c. at-stack _ _ _ _ (governed (c .before .before .before .before)) (sym (c .before .before .stack-fails .ensures) ∙ c .before .if1 .taken) _ (c .ended .ensures))

@@ -32,6 +32,7 @@ show-spec =
     rw (gathered (c .before .before) _ _ (c .number .ensures .0), c .before .place .ensures)
     (fitting (is-there (c .before .before)) (λ k. omega (arith, c .before .before .before .before .shared-slice-known .given k))))
     (λ c.
-    rw (sym (c .before .before .before .before .there .ensures) ∙ c .before .before .before .if1 .taken, ← c .before .before .place .ensures, ← gathered (c .before .before .before) _ _ (c .before .number .ensures .0))
-    (c .told .ensures))
+    let t = c .before .before .before in
+    rw (sym (t .before .there .ensures) ∙ t .if1 .taken)
+    (rw (← c .before .before .place .ensures, ← gathered t _ _ (c .before .number .ensures .0)) (c .told .ensures)))
     (λ c. rw (sym (c .before .there .ensures) ∙ c .if1 .left)))

@@ -5,8 +5,9 @@ use Prim.Native.Nat.{_≤_}
 use native.Mathlib.Omega.{arith}
 use borrow.Author.Needs.{needs}
 use Rattle.ground.proofs.Laws.{and-left, and-right}
+use Rattle.loads.proofs.Accepts.{length-exactly}
 use Rattle.lanes.specs.Lanes.{widthFits, laneThere}
-use Rattle.lanes.proofs.Tests.{length-most, width-exactly, in-bytes}
+use Rattle.lanes.proofs.Tests.{width-exactly, in-bytes}
 use Rattle.lanes.proofs.there.Statement.{statement}
 use Rattle.lanes.proofs.there.Tie as tie
 
@@ -19,7 +20,7 @@ fits-requires c κs = search needs
 mul-result : tie.Need-mul-result
 mul-result c =
     let vl = c .before .before .before .args .vl in
-    let most : vl ≤ 2048 = length-most vl (sym (c .before .before .allowed .ensures) ∙ and-left _ _ (c .if1 .taken)) in
+    let largest : vl ≤ 2048 = length-exactly vl .0 (sym (c .before .before .allowed .ensures) ∙ and-left _ _ (c .if1 .taken)) .largest in
     record { fits = omega arith }
 
 div-result : tie.Need-div-result

@@ -4,6 +4,7 @@ use Prim.Native.Nat.{_*_, _≤_}
 use native.Mathlib.Omega.{arith}
 use lib.Pow.{pow-mono}
 use Rattle.ground.specs.Sizes.{bytesOf}
+use Rattle.ground.proofs.Sizes.{bytes-some, bytes-few}
 use Rattle.loads.specs.Outcomes.{extended}
 use Rattle.bench.proofs.Digits.{sign-test, above}
 use Rattle.bench.proofs.fills.extend.Statement.{statement}
@@ -19,9 +20,9 @@ extend-spec =
     (λ c κs. tt)
     (λ c.
     let g = c .before .before .before .before .args in
-    let t = rw (c .before .before .before .largest .ensures, sign-test (g .size) (g .v)) at (c .before .before .if1 .taken) in
+    let t = rw (c .before .before .before .largest .ensures, sign-test (bytesOf (g .size)) (bytes-some (g .size)) (bytes-few (g .size)) (g .v)) at (c .before .before .if1 .taken) in
     c .wrapping-add-u64 .ensures ∙ rw (c .before .largest2 .ensures, c .before .before .before .largest .ensures, above (g .size) (g .lane), t))
     (λ c.
     let g = c .before .before .args in
-    let t = rw (c .before .largest .ensures, sign-test (g .size) (g .v)) at (c .if1 .left) in
+    let t = rw (c .before .largest .ensures, sign-test (bytesOf (g .size)) (bytes-some (g .size)) (bytes-few (g .size)) (g .v)) at (c .if1 .left) in
     rw t (omega arith)))

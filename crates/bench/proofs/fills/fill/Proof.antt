@@ -1,18 +1,17 @@
 -- `fill` meets its contract. The invariant: the lanes so far hold what the definition has there (`Filled`).
 use mathlib.Core.Path.{sym}
 use Prim.Native.Nat.{ℕ, _+_, _-_, _*_, _≤_, _<_, zero-le}
-use native.Mathlib.Nat.{le-refl, le-trans, le-of-lt, le-of-eq, le-add-right}
+use native.Mathlib.Nat.{le-refl, le-trans, le-of-lt, le-of-eq, le-add-right, div-le-self}
 use denote.Ref.{now}
 use lib.ListN.{length}
 use mir.Facts.{fits-below}
 use mir.Syntax.{w64}
 use mir.Val.{Fits}
-use Rattle.ground.specs.declared.Size.{Size}
 use Rattle.ground.proofs.Fills.{Filled, unfilled, all-filled}
-use Rattle.ground.proofs.Sizes.{bytes-some}
+use Rattle.ground.proofs.Sizes.{bytes-some, lane-room}
 use Rattle.memory.specs.Areas.{areasOf}
 use Rattle.loads.specs.Outcomes.{answersIn, registerByte, registerOf}
-use Rattle.bench.proofs.Small.{whole, room, next, less, next-fits}
+use Rattle.bench.proofs.Small.{whole, next, less, next-fits}
 use Rattle.bench.proofs.Digits.{lane-filled}
 use Rattle.bench.proofs.fills.fill.Statement.{statement}
 use Rattle.bench.proofs.fills.fill.Tie as tie
@@ -29,14 +28,13 @@ module _ (t : tie.In-loop Inv-loop μ-loop) where
   abbrev G : tie.Start Inv-loop μ-loop
   G = t .before .before .before .before .before .before .before .before .before
 
-  abbrev lane : Size
-  lane = G .args .plan .lane
-
   abbrev width : ℕ
   width = t .before .before .bytes .result
 
   fits : (t .before .loop .l * width + width ≤ length (now (G .args .dst))) × (t .before .loop .l < length (now (G .args .dst)))
-  fits = room (length (now (G .args .dst))) (t .before .loop .l) lane (t .before .before .bytes .ensures) (t .loop-test .taken)
+  fits =
+      let h = t .loop-test .taken in
+      (lane-room (length (now (G .args .dst))) width (t .before .loop .l) h, le-trans h (div-le-self (length (now (G .args .dst))) width))
 
   small : {m : ℕ} → m ≤ t .before .loop .l * width + width → Fits w64 m
   small h = fits-below {n = 256} tt (le-trans h (le-trans (fits .0) (G .pre .1 .0)))
@@ -54,8 +52,11 @@ fill-spec =
     (λ c. let t = c .before .before .before .before .before in next-fits (fits t .1) (G t .pre .1 .0))
     (λ c. less (c .before .before .before .before .before .loop-test .taken))
     (λ c.
-    let t = c .before .before .before .before .before in
-    (next (t .loop-test .taken), lane-filled _ _ _ (t .before .before .bytes .ensures) (t .before .loop .inv .1) (fits t .0) _ (c .before .before .before .before .lane-value .ensures) _ (c .before .before .put .ensures)))
+    let t = c .before .before .before .before .before in (
+      next (t .loop-test .taken),
+      lane-filled _ _ _ (t .before .before .bytes .ensures) (t .before .loop .inv .1) (fits t .0) _
+          (c .before .before .before .before .lane-value .ensures) _ (c .before .before .put .ensures),
+    ))
     (λ c. c .before .loop .inv .1 .size)
     (λ c.
     let g = c .before .before .before .before .before .before .before .before .before in

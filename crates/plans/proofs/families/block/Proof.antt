@@ -4,7 +4,8 @@ use Prim.Native.Nat.{_≤_}
 use native.Mathlib.Omega.{arith}
 use Rattle.ground.proofs.Sizes.{bytes-some}
 use Rattle.loads.specs.Plans.{spreadOf}
-use Rattle.plans.proofs.Bounds.{block-few, blocks-few}
+use Rattle.loads.proofs.Plans.{blocks-few}
+use Rattle.plans.proofs.Bounds.{block-few}
 use Rattle.plans.proofs.families.block.Statement.{statement}
 use Rattle.plans.proofs.families.block.Tie as tie
 
@@ -20,7 +21,7 @@ block-spec =
     (λ c. omega (arith, few c))
     (λ c.
     let g = c .before .before .before .before in
-    record { fits = omega (arith, blocks-few (g .args .vl) (c .before .block-bytes .result) (c .bytes .result) (g .pre .1) (few c .1)) })
+    record { fits = omega (arith, blocks-few (g .args .vl) (c .before .block-bytes .result) (c .bytes .result) (g .pre .1)) })
     (λ c κs. (c .before .before .before .before .pre .0, omega (arith, few c)))
     (λ c κs. tt)
     (λ c. c .plan-with .ensures ∙ rw (c .before .start .ensures, c .before .before .bytes .ensures, c .before .before .before .block-bytes .ensures)))

@@ -1,7 +1,9 @@
 -- `contiguous` meets its contract: what is read is no wider than its lane, so a vector has at most 256 bytes in memory.
 use mathlib.Core.Path.{_∙_}
 use Prim.Native.Nat.{_*_, _≤_}
+use native.Mathlib.Nat.{le-refl}
 use native.Mathlib.Omega.{arith}
+use Rattle.ground.specs.Sizes.{bytesOf}
 use Rattle.ground.proofs.Sizes.{bytes-few}
 use Rattle.loads.specs.Plans.{spreadOf}
 use Rattle.plans.proofs.Bounds.{vector-few}
@@ -13,8 +15,10 @@ few : (c : tie.After-bytes) → (c .before .lanes-in .result * c .bytes .result 
 few c =
     let g = c .before .before .before .before in
     let d = g .args .insn .element in
-    rw (c .bytes .ensures, c .before .lanes-in .ensures)
-    (omega (arith, vector-few (d .memory) (d .lane) (g .args .vl) (g .pre .1 .1) (g .pre .1 .0), vector-few (d .lane) (d .lane) (g .args .vl) (g .pre .1 .1) (omega arith)), omega (arith, bytes-few (d .memory), bytes-few (d .lane)))
+    let bytes = bytesOf (d .lane) in
+    let in-memory = vector-few (bytesOf (d .memory)) bytes (g .args .vl) (g .pre .1 .1) (g .pre .1 .0) in
+    let in-lanes = vector-few bytes bytes (g .args .vl) (g .pre .1 .1) (le-refl bytes) in
+    rw (c .bytes .ensures, c .before .lanes-in .ensures) (omega arith, omega (arith, bytes-few (d .memory), bytes-few (d .lane)))
 
 pub contiguous-spec : {M : Type 1} → statement M
 unfolding spreadOf

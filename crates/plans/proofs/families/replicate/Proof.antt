@@ -16,4 +16,8 @@ replicate-spec =
     tie.close (tie.spec (λ c κs. tt)
     (λ c. rw (c .before .bytes .ensures) (bytes-some (c .before .before .before .before .before .args .insn .element .lane)))
     (λ c κs. tt) (λ c κs. tt) (λ c κs. tt) (λ c κs. tt)
-    (λ c. c .plan-with .ensures ∙ rw (chosen (c .before .before .before .before .before .before), c .before .before .before .before .before .bytes .ensures, c .before .before .before .scalar .ensures, c .before .before .amount .ensures, c .before .writes .ensures)))
+    (λ c.
+    let j = c .before .before .before .before .before in
+    c .plan-with .ensures
+    ∙ rw (chosen (j .before), j .bytes .ensures, c .before .before .before .scalar .ensures)
+    (rw (c .before .before .amount .ensures, c .before .writes .ensures))))
