@@ -10,7 +10,7 @@ use Rattle.memory.specs.Areas.{Areas}
 use Rattle.memory.specs.Bytes.{lookOf}
 use Rattle.memory.specs.Elements.{readingOf}
 use Rattle.memory.specs.Said.{Taken, in-flash, in-ram}
-use Rattle.memory.specs.Troubles.{ByteAt, none, bad, troubleOf}
+use Rattle.memory.specs.Troubles.{FindsByte, none, bad, troubleOf}
 use Rattle.memory.specs.declared.Fault.{Fault}
 use Rattle.memory.specs.declared.Fault.the-variants.{Nowhere, Denied}
 use Rattle.memory.specs.declared.Cell.the-variants as C
@@ -44,7 +44,7 @@ bad-reading t a (R.Value v) = (λ h. cc, λ h. cc)
 bad-reading t a (R.Bad f x) = (λ h. let k : f ≡ t = cc in let e : x .0 ≡ a = cc in λ i. R.Bad (k i) (record { 0 = e i }), λ h. cc)
 
 module _ (s : Areas) (taken : Taken s) (a : ℕ) where
-  pub can-read : ByteAt (lookOf s) a ↔ CanRead s a
+  pub can-read : FindsByte (lookOf s) a ↔ CanRead s a
   can-read = (λ h. let r = byte-exactly s taken a (h .0) .0 (h .1) in (r .0, r .1, r .2, r .3), λ h. (_, right-byte s taken a (h .1) (h .2) (h .3)))
 
   pub is-bad : (t : Fault) → (lookOf s a ≡ C.Bad t) ↔ IsBad t s a
@@ -63,8 +63,11 @@ module _ (l : Lent) (b : Bench) (taken : Taken (areas l b)) (i : Insn) (e : ℕ)
   lies : (k : ℕ) → plusOf (elementAt p e) k ≡ at k
   lies k = byte-lies l (b .scalars) i e k active
 
-  read-at : (k : ℕ) → ByteAt (lookOf (areas l b)) (plusOf (elementAt p e) k) ↔ CanRead (areas l b) (at k)
+  read-at : (k : ℕ) → FindsByte (lookOf (areas l b)) (plusOf (elementAt p e) k) ↔ CanRead (areas l b) (at k)
   read-at k = rw (lies k) (can-read (areas l b) taken (at k))
+
+  bad-at : (t : Fault) (k : ℕ) → (lookOf (areas l b) (plusOf (elementAt p e) k) ≡ C.Bad t) ↔ IsBad t (areas l b) (at k)
+  bad-at t k = rw (lies k) (is-bad (areas l b) taken (at k) t)
 
   abbrev read : Reading
   read = readingOf (lookOf (areas l b)) (elementAt p e) (m i)
@@ -74,17 +77,18 @@ module _ (l : Lent) (b : Bench) (taken : Taken (areas l b)) (i : Insn) (e : ℕ)
   answer-is = refl
 
   pub good-exactly : (troubleOf (answersOf l b p e) ≡ none) ↔ ((k : ℕ) → k < m i → CanRead (areas l b) (at k))
-  good-exactly = (
-    λ h k q. let v = good-value read .0 (ap troubleOf (sym answer-is) ∙ h) in read-at k .0 (value-exactly (lookOf (areas l b)) (elementAt p e) (m i) (below-all p e) (v .0) .0 (v .1) .0 k q),
-    λ h. ap troubleOf answer-is ∙ good-value read .1 (_, value-exactly (lookOf (areas l b)) (elementAt p e) (m i) (below-all p e) _ .1 (λ k q. read-at k .1 (h k q), refl)),
-  )
+  good-exactly =
+      let law = value-exactly (lookOf (areas l b)) (elementAt p e) (m i) (below-all p e) in (
+        λ h k q. let v = good-value read .0 (ap troubleOf (sym answer-is) ∙ h) in read-at k .0 (law (v .0) .0 (v .1) .0 k q),
+        λ h. ap troubleOf answer-is ∙ good-value read .1 (_, law _ .1 (λ k q. read-at k .1 (h k q), refl)),
+      )
 
   pub bad-exactly-at : (t : Fault) (a : ℕ) → (troubleOf (answersOf l b p e) ≡ bad t a)
       ↔ ((k : ℕ) × (k < m i) × IsBad t (areas l b) (at k) × (a ≡ at k) × ((j : ℕ) → j < k → CanRead (areas l b) (at j)))
   bad-exactly-at t a =
       let law = bad-exactly (lookOf (areas l b)) (elementAt p e) (m i) (below-all p e) t (record { 0 = a }) in (
         λ h. let r = law .0 (bad-reading t a read .0 (ap troubleOf (sym answer-is) ∙ h)) in
-            (r .0, r .1, is-bad (areas l b) taken (at (r .0)) t .0 (ap (lookOf (areas l b)) (sym (lies (r .0))) ∙ r .2), r .3 ∙ lies (r .0), λ j q. read-at j .0 (r .4 j q)),
+            (r .0, r .1, bad-at t (r .0) .0 (r .2), r .3 ∙ lies (r .0), λ j q. read-at j .0 (r .4 j q)),
         λ h. ap troubleOf answer-is ∙ bad-reading t a read .1 (law .1
-            (h .0, h .1, ap (lookOf (areas l b)) (lies (h .0)) ∙ is-bad (areas l b) taken (at (h .0)) t .1 (h .2), h .3 ∙ sym (lies (h .0)), λ j q. read-at j .1 (h .4 j q))),
+            (h .0, h .1, bad-at t (h .0) .1 (h .2), h .3 ∙ sym (lies (h .0)), λ j q. read-at j .1 (h .4 j q))),
       )

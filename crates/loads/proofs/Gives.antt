@@ -56,10 +56,10 @@ module _ (l : Lent) (w : ℕ) (b : Bench) where
       (λ s.
       let f = stops-first l b i a long s in
       let t = s .to in
-      let n : 0 + many (want l b i a long) 0 (s .e - 0) ≡ many (want l b i a long) 0 (s .e) = rw (zero-add, sub-zero) in
-      let told : surveyOf (answer l b i a long) (plan i) (governing l (plan i)) ≡ report (faultNumber (s .kind)) (many (want l b i a long) 0 (s .e)) (s .e) (byteAt l (b .scalars) i (s .e) (f .0)) =
-      survey-is l b i a long ∙ walk-stopped (want l b i a long) (answer l b i a long) 0 0 (elements l b i a long) s ∙ (λ j. report (faultNumber (s .kind)) (n j) (s .e) (f .2 j)) in
-      subst (Given l w b) (sym told) (faulted i ready (s .kind) (s .e) (f .0) _ (f .1) (counts l b i a long (s .e) (omega arith))))
+      let n : 0 + many (want l b i a long) 0 (s .element - 0) ≡ many (want l b i a long) 0 (s .element) = rw (zero-add, sub-zero) in
+      let told : surveyOf (answer l b i a long) (plan i) (governing l (plan i)) ≡ report (faultNumber (s .kind)) (many (want l b i a long) 0 (s .element)) (s .element) (byteAt l (b .scalars) i (s .element) (f .0)) =
+      survey-is l b i a long ∙ walk-stopped (want l b i a long) (answer l b i a long) 0 0 (elements l b i a long) s ∙ (λ j. report (faultNumber (s .kind)) (n j) (s .element) (f .2 j)) in
+      subst (Given l w b) (sym told) (faulted i ready (s .kind) (s .element) (f .0) _ (f .1) (counts l b i a long (s .element) (omega arith))))
       (clear-or-stopped (want l b i a long) (answer l b i a long) 0 (elements l b i a long))
     where
       a : Accepted l b

@@ -16,7 +16,7 @@ use Rattle.memory.specs.Addresses.{wrap, plusOf}
 use Rattle.memory.specs.Areas.{Areas}
 use Rattle.memory.specs.Bytes.{readRight, judged, lookOf}
 use Rattle.memory.specs.Said.{Taken}
-use Rattle.memory.specs.Troubles.{ByteAt, byteOf}
+use Rattle.memory.specs.Troubles.{FindsByte, byteOf}
 use Rattle.memory.specs.declared.Fault.the-variants.{Denied}
 use Rattle.memory.specs.declared.Cell.the-variants.{Byte, Bad}
 use Rattle.memory.specs.declared.Reading.{Reading}
@@ -47,7 +47,7 @@ found : (s : Areas) (taken : Taken s) (a v : ℕ) → CanRead s a → Contains s
 unfolding judged
 found s taken a v c (r, o, h, e, k) = go (readRight (r .rights) (a - r .start)) (looked s taken a o h) (can-read s taken a .1 c)
   where
-    go : (t : Bool) → lookOf s a ≡ (if t then Byte (getD (r .bytes) (a - r .start) 0) else Bad Denied) → ByteAt (lookOf s) a → byteOf (lookOf s a) ≡ v
+    go : (t : Bool) → lookOf s a ≡ (if t then Byte (getD (r .bytes) (a - r .start) 0) else Bad Denied) → FindsByte (lookOf s) a → byteOf (lookOf s a) ≡ v
     go true p q = ap byteOf p ∙ sym e
     go false p q = let d = q .1 in let z : _≡_ {A = ℕ} 0 1 = cc in absurd (omega arith)
 

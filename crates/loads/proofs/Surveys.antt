@@ -85,7 +85,7 @@ module _ (l : Lent) (b : Bench) (i : Insn) (a : Accepted l b) (long : Wide i →
       let q = asks e .1 (f .active) in
       let h = q .0 in
       record {
-        e = e;
+        element = e;
         from = omega arith;
         to = omega arith;
         asked = q .1;
@@ -95,11 +95,12 @@ module _ (l : Lent) (b : Bench) (i : Insn) (a : Accepted l b) (long : Wide i →
         trouble = bad-exactly-at l b (a .taken) i e (f .active) t _ .1 (k, f .within, f .bad, refl, f .below);
       }
 
-  pub stops-first : (s : Stopped want answer 0 elements) → (k : ℕ) × FirstBad (IsBad (s .kind)) l b i (s .e) k × (s .at ≡ byteAt l (b .scalars) i (s .e) k)
+  pub stops-first : (s : Stopped want answer 0 elements)
+      → (k : ℕ) × FirstBad (IsBad (s .kind)) l b i (s .element) k × (s .at ≡ byteAt l (b .scalars) i (s .element) k)
   stops-first s =
       let t = s .to in
-      let q = asks (s .e) .0 (omega arith, s .asked) in
-      let r = bad-exactly-at l b (a .taken) i (s .e) q (s .kind) (s .at) .0 (s .trouble) in (
+      let q = asks (s .element) .0 (omega arith, s .asked) in
+      let r = bad-exactly-at l b (a .taken) i (s .element) q (s .kind) (s .at) .0 (s .trouble) in (
         r .0,
         record {
           active = q;

@@ -19,7 +19,8 @@ use Rattle.memory.proofs.Looks.{nowhere-exactly, denied-exactly, byte-e
 held : {f f′ n n′ a : ℕ} → f ≡ f′ → n ≡ n′ → (f ≤ a) × (a < f + n) → (f′ ≤ a) × (a < f′ + n′)
 held p q h = let u = h .0 in let v = h .1 in (omega arith, omega arith)
 
-module _ (m n : Areas) (taken : Taken m) (taken′ : Taken n) (same : SamePlaces m n) (a : ℕ) (right : (r r′ : Area) → Both m n r r′ → Holds r a → Right r a ↔ Right r′ a) where
+module _ (m n : Areas) (taken : Taken m) (taken′ : Taken n) (same : SamePlaces m n) (a : ℕ)
+    (right : (r r′ : Area) → Both m n r r′ → Holds r a → Right r a ↔ Right r′ a) where
   -- an area's fellow holds the same addresses
   fellow : {r : Area} → Of m r → Holds r a → (r′ : Area) × Of n r′ × Both m n r r′ × Holds r′ a
   fellow in-flash h = (n .flash, in-flash, flashes, held (same .flash-start) (same .flash-length) h)
@@ -27,7 +28,9 @@ module _ (m n : Areas) (taken : Taken m) (taken′ : Taken n) (same : SamePlaces
 
   Alike : Type 0
   Alike =
-      ((r r′ : Area) × Both m n r r′ × Holds r a × (lookOf m a ≡ C.Byte (getD (r .bytes) (a - r .start) 0)) × (lookOf n a ≡ C.Byte (getD (r′ .bytes) (a - r′ .start) 0)))
+      ((r r′ : Area) × Both m n r r′ × Holds r a
+      × (lookOf m a ≡ C.Byte (getD (r .bytes) (a - r .start) 0))
+      × (lookOf n a ≡ C.Byte (getD (r′ .bytes) (a - r′ .start) 0)))
       ⊎ ((f : Fault) × (lookOf m a ≡ C.Bad f) × (lookOf n a ≡ C.Bad f))
 
   alike : Alike
@@ -45,7 +48,9 @@ module _ (m n : Areas) (taken : Taken m) (taken′ : Taken n) (same : SamePlaces
           inr (Denied, h, no-right-denied n taken′ a (f .1) (f .3) (λ q. e .3 (right _ _ (f .2) (e .2) .1 q)))
       go (C.Bad Nowhere) h =
           let k = nowhere-exactly m a .0 h in
-          inr (Nowhere, h, nowhere-exactly n a .1 (λ q. k .0 (held (sym (same .flash-start)) (sym (same .flash-length)) q), λ q. k .1 (held (sym (same .ram-start)) (sym (same .ram-length)) q)))
+          let flash = held (sym (same .flash-start)) (sym (same .flash-length)) in
+          let ram = held (sym (same .ram-start)) (sym (same .ram-length)) in
+          inr (Nowhere, h, nowhere-exactly n a .1 (λ q. k .0 (flash q), λ q. k .1 (ram q)))
 
   pub same-trouble : (x : ℕ) → troubleAt (lookOf m a) x ≡ troubleAt (lookOf n a) x
   unfolding Alike

@@ -12,7 +12,7 @@ use Rattle.memory.specs.declared.Cell.the-variants as C
 use Rattle.memory.specs.declared.Reading.{Reading}
 use Rattle.memory.specs.declared.Reading.the-variants.{Value, Bad}
 use Rattle.memory.specs.Addresses.{plusOf}
-use Rattle.memory.specs.Elements.{readingOf, under, onCell}
+use Rattle.memory.specs.Elements.{readingOf, withLowByte, onCell}
 
 -- v with what was read above it, at the scale s
 abbrev pub over : ℕ → ℕ → Reading → Reading
@@ -23,9 +23,9 @@ over-none : (r : Reading) → r ≡ over 0 1 r
 over-none (Value w) = ap Value (sym (zero-add (1 * w) ∙ one-mul w))
 over-none (Bad f x) = refl
 
-over-under : (v s b : ℕ) (r : Reading) → over v s (under b r) ≡ over (v + b * s) (s * 256) r
-over-under v s b (Value w) = ap Value (simp (mul-add, mul-assoc, add-assoc, mul-comm b s))
-over-under v s b (Bad f x) = refl
+over-low-byte : (v s b : ℕ) (r : Reading) → over v s (withLowByte b r) ≡ over (v + b * s) (s * 256) r
+over-low-byte v s b (Value w) = ap Value (simp (mul-add, mul-assoc, add-assoc, mul-comm b s))
+over-low-byte v s b (Bad f x) = refl
 
 -- i of n bytes from a₀ on are read, v is their value, and the next lies at a
 pub record SoFar (look : ℕ → Cell) (a₀ n a v i : ℕ) : Type 0 where
@@ -79,4 +79,4 @@ module _ {look : ℕ → Cell} {a₀ n a v i : ℕ} (s : SoFar look a₀ n a v i
         omega (arith, below, pow-mono h)
 
     pub turned : look a ≡ C.Byte b → SoFar look a₀ n (plusOf a 1) (v + (b * 2 ^ (8 * i)) % 2 ^ 64) (i + 1)
-    turned e = record { count = omega arith; fits = below; reads = s .reads ∙ simp (next, e, shifted, scale, over-under) }
+    turned e = record { count = omega arith; fits = below; reads = s .reads ∙ simp (next, e, shifted, scale, over-low-byte) }

@@ -7,12 +7,12 @@ use Rattle.memory.specs.declared.Reading.{Reading}
 use Rattle.memory.specs.declared.Reading.the-variants.{Value, Bad}
 
 -- a byte below what the bytes above it read as
-abbrev pub under : ℕ → Reading → Reading
-under b (Value v) = Value (b + 256 * v)
-under b (Bad f x) = Bad f x
+abbrev pub withLowByte : ℕ → Reading → Reading
+withLowByte b (Value v) = Value (b + 256 * v)
+withLowByte b (Bad f x) = Bad f x
 
 abbrev pub onCell : Cell → ℕ → Reading → Reading
-onCell (C.Byte b) a rest = under b rest
+onCell (C.Byte b) a rest = withLowByte b rest
 onCell (C.Bad f) a rest = Bad f (record { 0 = a })
 
 -- n bytes upward from a: their value, lowest byte first, or the first bad byte

@@ -8,8 +8,8 @@ use Rattle.memory.specs.declared.Reading.{Reading}
 use Rattle.memory.specs.declared.Reading.the-variants as R
 
 -- a look finds a byte, whichever it is
-abbrev pub ByteAt : (ℕ → Cell) → ℕ → Type 0
-ByteAt look a = (b : ℕ) × (look a ≡ C.Byte b)
+abbrev pub FindsByte : (ℕ → Cell) → ℕ → Type 0
+FindsByte look a = (b : ℕ) × (look a ≡ C.Byte b)
 
 abbrev pub byteOf : Cell → ℕ
 byteOf (C.Byte b) = b

@@ -1,4 +1,5 @@
--- `before` meets its contract: where the other area starts earlier the sum cannot end there, and else the length is compared with the gap, so that no sum wraps.
+-- `before` meets its contract: where the other area starts earlier the sum cannot end there, and else the length is compared with the
+-- gap, so that no sum wraps.
 use borrow.Author.Tests.{lt-leb}
 use Prim.Native.Nat.{_+_, _-_}
 use native.Mathlib.Omega.{arith}

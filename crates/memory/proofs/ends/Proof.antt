@@ -1,4 +1,5 @@
--- `ends` meets its contract: at address 0 every slice ends in time, and else the length is compared with what is left of the address space, so that no sum wraps.
+-- `ends` meets its contract: at address 0 every slice ends in time, and else the length is compared with what is left of the address
+-- space, so that no sum wraps.
 use borrow.Author.Tests.{le-leb}
 use Prim.Native.Nat.{_+_, _-_, _^_}
 use native.Mathlib.Omega.{arith}

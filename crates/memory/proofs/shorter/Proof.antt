@@ -47,7 +47,8 @@ S₁ κs = ShrSlice (named 1) (κs .1 .0) u8
 abbrev stayed : Stays (shorter.ended .signature .params) (shorter.ended .kept)
 stayed = (stay-none S₀ yes, (stay-none S₁ yes, tt))
 
-module _ {M : Type 1} (𝓤 : URA M) (H : Heap 𝓤) (A : Atoms 𝓤) (W : Given 𝓤 H A) (mem : Memory → SProp 𝓤) (run : Routine → Fun 𝓤) (κ κ′ : Lft) (q q′ : Share) (inc : κ′ ⊑ κ) (s l : RefT (List ℕ)) where
+module _ {M : Type 1} (𝓤 : URA M) (H : Heap 𝓤) (A : Atoms 𝓤) (W : Given 𝓤 H A) (mem : Memory → SProp 𝓤) (run : Routine → Fun 𝓤)
+    (κ κ′ : Lft) (q q′ : Share) (inc : κ′ ⊑ κ) (s l : RefT (List ℕ)) where
   abbrev κs : Lfts 2
   κs = (κ, (κ′, tt))
 
@@ -73,8 +74,11 @@ module _ {M : Type 1} (𝓤 : URA M) (H : Heap 𝓤) (A : Atoms 𝓤) (W : Given
   exits : ent 𝓤 (onEntry 𝓤 H A shorter.signature κs (q, (q′, tt)) (s, (l, tt)) at) (Post v)
   exits =
       qed W ((‵ (flft κ q) ⊛ ‵ (flft κ′ q′) ⊛ ‵ ftrue) ∷ ‵ (owns (S₀ κs ∷ S₁ κs ∷ []) (s, (l, tt)) at) ∷ []) ∵
-      suffices ! _ (ends-at 𝓤 H A shorter.ended stayed (shorter.clauses 𝓤 H A mem run) W ((κs, (q, (q′, tt)), (inc, tt), (s, (l, tt)), at), tt) v s (tt, (tt, tt)) (tt, (tt, tt))) $ says ! refl $
-      frame ! $ fsplit ! $ use1 W (‵ Own ⊛ ‵ Own) (shr-slice-copy 𝓤 H A W (named 0) κ u8 .twice s (v ∷ [])) $ split ! $ move ! (0 ∷ 2 ∷ []) $ fjoin ! $ frame ! $
+      suffices ! _
+      (ends-at 𝓤 H A shorter.ended stayed (shorter.clauses 𝓤 H A mem run) W ((κs, (q, (q′, tt)), (inc, tt), (s, (l, tt)), at), tt)
+      v s (tt, (tt, tt)) (tt, (tt, tt))) $
+      says ! refl $ frame ! $ fsplit ! $ use1 W (‵ Own ⊛ ‵ Own) (shr-slice-copy 𝓤 H A W (named 0) κ u8 .twice s (v ∷ [])) $
+      split ! $ move ! (0 ∷ 2 ∷ []) $ fjoin ! $ frame ! $
       -- [what s owns]: its borrow is shortened
       fsplit3 ! $ move ! (2 ∷ []) $ use1 W (‵ (fshr-bor κ′ Fam)) (W .shr-bors .shr-bor-shorten κ κ′ Fam inc) $ move ! (1 ∷ 2 ∷ 0 ∷ []) $ fjoin3 ! $ done !
 
@@ -82,19 +86,27 @@ module _ {M : Type 1} (𝓤 : URA M) (H : Heap 𝓤) (A : Atoms 𝓤) (W : Given
     walk : ent 𝓤 (onEntry 𝓤 H A shorter.signature κs (q, (q′, tt)) (s, (l, tt)) at) (WpFn 𝓤 H C Λ code.function (v ∷ w ∷ []) Post)
     walk =
         qed W ((‵ (flft κ q) ⊛ ‵ (flft κ′ q′) ⊛ ‵ ftrue) ∷ ‵ (owns (S₀ κs ∷ S₁ κs ∷ []) (s, (l, tt)) at) ∷ []) ∵ enter ! C Λ code.function (v ∷ w ∷ []) _ $
-        alloc1 ! (λ l₀. alloc1 ! (λ l₁. alloc1 ! (λ l₂. alloc0 ! $ params1 ! $ pass1 ! (init ! 2 refl (tt, (tt, (record { fits = fs }, tt)))) $ pass1 ! (init ! 0 refl (tt, (tt, (record { fits = fl }, tt)))) $ pass0 ! $
+        alloc1 ! (λ l₀. alloc1 ! (λ l₁. alloc1 ! (λ l₂. alloc0 ! $ params1 ! $
+        pass1 ! (init ! 2 refl (tt, (tt, (record { fits = fs }, tt)))) $ pass1 ! (init ! 0 refl (tt, (tt, (record { fits = fl }, tt)))) $ pass0 ! $
         assigns ! (of-opd ! (load ! (from ! (stop !)) (look ! 2 refl))) (from ! (stop !)) (init ! 4 refl (tt, (tt, (record { fits = fs }, tt)))) $
         returns ! (look ! 4 refl) $ forget ! 0 refl $ forget ! 2 refl $ forget ! 4 refl $
         move ! (4 ∷ 5 ∷ []) $ free1 ! $ move ! (2 ∷ 3 ∷ []) $ free1 ! $ free1 ! $ free0 ! $ by ! exits)))
 
 module _ {M : Type 1} (𝓤 : URA M) (H : Heap 𝓤) (A : Atoms 𝓤) (W : Given 𝓤 H A) (mem : Memory → SProp 𝓤) (run : Routine → Fun 𝓤) where
   shorter-walks : (C : Calls 𝓤 H) (Λ : Loops 𝓤 H) → Walks 𝓤 H A shorter.ended stayed (WpFn 𝓤 H C Λ code.function) (shorter.clauses 𝓤 H A mem run)
-  shorter-walks C Λ = walked 𝓤 H A shorter.ended stayed (shorter.clauses 𝓤 H A mem run) (WpFn 𝓤 H C Λ code.function) (λ κs. (slice-vals, (slice-vals, tt))) (λ κs. (shr-slice-tells (named 0) (κs .0) u8, (shr-slice-tells (named 1) (κs .1 .0) u8, tt)))
-      (λ κs qs bounds a g are. via 𝓤 _ (fst∗ 𝓤 _ (emp 𝓤)) (walk 𝓤 H A W mem run (κs .0) (κs .1 .0) (qs .0) (qs .1 .0) (bounds .0) (a .0) (a .1 .0) C Λ (are .0 .0 .1 .0) (are .1 .0 .0 .1 .0)))
+  shorter-walks C Λ =
+      walked 𝓤 H A shorter.ended stayed (shorter.clauses 𝓤 H A mem run) (WpFn 𝓤 H C Λ code.function)
+      (λ κs. (slice-vals, (slice-vals, tt)))
+      (λ κs. (shr-slice-tells (named 0) (κs .0) u8, (shr-slice-tells (named 1) (κs .1 .0) u8, tt)))
+      (λ κs qs bounds a g are. via 𝓤 _ (fst∗ 𝓤 _ (emp 𝓤))
+      (walk 𝓤 H A W mem run (κs .0) (κs .1 .0) (qs .0) (qs .1 .0) (bounds .0) (a .0) (a .1 .0) C Λ (are .0 .0 .1 .0) (are .1 .0 .0 .1 .0)))
 
 shorter-meets : {M : Type 1} (𝓤 : URA M) (H : Heap 𝓤) (A : Atoms 𝓤) → Given 𝓤 H A → (mem : Memory → SProp 𝓤) (run : Routine → Fun 𝓤) (𝓣 : Tables 𝓤 H)
     → Meets 𝓤 H A shorter.signature (WpFn 𝓤 H (𝓣 .C) (𝓣 .Λ) code.function) (shorter.spec 𝓤 H A mem run)
-shorter-meets 𝓤 H A W mem run 𝓣 = walk-meets 𝓤 H A shorter.ended stayed W (goes-none 𝓤 H A W 2 S₀ yes (λ κs x f. refl), (goes-none 𝓤 H A W 2 S₁ yes (λ κs x f. refl), tt)) (shorter.clauses 𝓤 H A mem run) (WpFn 𝓤 H (𝓣 .C) (𝓣 .Λ) code.function) (WpFn-mono 𝓤 H (W .laws) 𝓣 code.function) (shorter-walks 𝓤 H A W mem run (𝓣 .C) (𝓣 .Λ))
+shorter-meets 𝓤 H A W mem run 𝓣 =
+    walk-meets 𝓤 H A shorter.ended stayed W (goes-none 𝓤 H A W 2 S₀ yes (λ κs x f. refl), (goes-none 𝓤 H A W 2 S₁ yes (λ κs x f. refl), tt))
+    (shorter.clauses 𝓤 H A mem run) (WpFn 𝓤 H (𝓣 .C) (𝓣 .Λ) code.function) (WpFn-mono 𝓤 H (W .laws) 𝓣 code.function)
+    (shorter-walks 𝓤 H A W mem run (𝓣 .C) (𝓣 .Λ))
 
 pub shorter-spec : {M : Type 1} → stated.statement M
 unfolding code.routine tablesOf

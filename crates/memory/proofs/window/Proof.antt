@@ -61,7 +61,8 @@ returns : tie.Need-returns
 returns c = rw (sym (c .before .before .before .before .shown .ensures) ∙ c .before .before .k .given .1) (part-of _ _ _ _)
 
 returns-2 : tie.Need-returns-2
-returns-2 c = rw (sym (c .before .before .before .before .before .shown .ensures) ∙ c .before .before .before .k2 .given .1, c .shorter .ensures) (part-of _ _ _ _)
+returns-2 c =
+    rw (sym (c .before .before .before .before .before .shown .ensures) ∙ c .before .before .before .k2 .given .1, c .shorter .ensures) (part-of _ _ _ _)
 
 returns-3 : tie.Need-returns-3
 returns-3 c = rw (sym (c .before .before .before .shown .ensures) ∙ c .before .enum-told .given .1) (part-of _ _ _ _)
