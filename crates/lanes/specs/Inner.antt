@@ -1,4 +1,5 @@
--- What the lane window's own functions are given, by each other: no one else calls them.
+-- What the functions inside the crate ask of their callers. This file serves proofs alone, and nothing in it has to be believed: the promise of
+-- `show` is `shownOf`.
 use Prim.Native.Nat.{ℕ, _^_, _<_}
 use mathlib.Core.Path.{_≡_}
 use mathlib.Core.Bool.{true}

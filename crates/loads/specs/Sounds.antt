@@ -1,4 +1,5 @@
--- What every plan has: the functions over a plan ask this of it, and nothing more.
+-- What every plan has: the functions over a plan ask this of it, and nothing more. This file serves proofs alone, and nothing in it has to
+-- be believed: that every plan of a word has it is proved.
 use Prim.Native.Nat.{_≤_, _<_}
 use mathlib.Core.Path.{_≡_}
 use Rattle.ground.specs.Sizes.{bytesOf}

@@ -58,12 +58,12 @@ plannedBy s x (Is i) = plannedLoad s x i
 unfoldable pub planned : Settings → List ℕ → ℕ → Planned
 planned s x w = plannedBy s x (readOf w)
 
--- a refusal, or the plan to carry out
+-- what is left to do past the stack rule: a refusal to report, or the plan to carry out
 pub data Prepared : Type 0 where
   Stop : Report → Prepared
   Go : Plan → Prepared
 
--- .. then "5", by the governing predicate
+-- what was planned, at the stack rule: 5 comes after all that the word, the settings and the scalars decide, since the lanes decide it
 abbrev pub atStack : Lent → List ℕ → Planned → Prepared
 atStack l x (P.Stop a) = Stop (reportOf (record { count = 0; answer = a }))
 atStack l x (P.Go p) = if stackFails x p (governing l p) then Stop (refusal 5) else Go p

@@ -96,17 +96,19 @@ impl Answer {
     }
 }
 
-// Which bits of the governing predicate decide whether a lane takes its element: none; the lane's own; the element's. And which elements are
-// asked for: every one; the one, where some lane is active; those whose bit is set.
+// What decides whether a lane takes its element, and whether an element is read.
+// Always, as for LD1R: every lane takes the one element, and it is read.
+// LaneBit, as for LD1R by element: a lane takes the one element where its own bit is 1, and the element is read where some lane is active.
+// ElementBit, as for the others: lane l takes element l mod `elements` where the bit of the lane with that number is 1, and only then is it read.
 pub enum Rule {
     Always,
     LaneBit,
     ElementBit,
 }
 
-// What a load is about to do, with no memory in sight. Element e is read at start + e × size. Lane l of the first `filled`
-// takes element l mod `elements`, where the rule lets it; every other lane becomes zero. The stack rule consults the first `consulted` lanes,
-// and where the rule is `Always` it checks whatever they are.
+// What a load is about to do, with no memory in sight. Element e is read at start + e × size. Each of the first `filled` lanes takes its
+// element where the rule says so, and every other lane becomes zero. The stack rule checks SP where one of the first `consulted` lanes is
+// active; where the rule is `Always`, it checks in any case. The base is written back where `back` says so, and `amount` is added to it.
 pub struct Plan {
     pub start: Address,
     pub size: Size,

@@ -1,5 +1,6 @@
 -- What every plan is, beyond `Sound`, in a register of n bytes: what a fill of it by chunks of eight bytes needs. One element for all lanes,
--- or one for each of the first ones, and these lanes are whole chunks. This file serves proofs alone: what a load does is `planOf` of loads.
+-- or one for each of the first ones, and these lanes are whole chunks. This file serves proofs alone, and nothing in it has to be believed:
+-- what a load does is `planOf` of steps.
 use Prim.Native.Nat.{ℕ, _*_, _%_, _≤_, _<_}
 use mathlib.Core.Path.{_≡_}
 use mathlib.Core.Bool.{false}

@@ -20,7 +20,7 @@ pub enum Back {
     Post(u32),
 }
 
-// The predicate register that governs an instruction, or none: then no bit is asked, and none is set.
+// The predicate register that governs an instruction. LD1R has none.
 pub enum Governing {
     None,
     By(u32),
