@@ -19,7 +19,8 @@ use Rattle.bench.specs.Roads.{Loaded}
 
 -- a fill from a stretch, over any answers that the stretch gives too
 pub alike : (answer : ℕ → Reading) (p : Plan) (pred s dst : List ℕ) → 0 < p .elements → ((e : ℕ) → e < p .elements → answer e ≡ answersFrom s p e)
-    → {dst′ : List ℕ} {count : ℕ} → FillOut p pred s (length dst) dst′ count → {r : StepResult} → r ≡ record { count = count; answer = Ran } → Loaded answer p pred dst r dst′
+    → {dst′ : List ℕ} {count : ℕ} → FillOut p pred s (length dst) dst′ count → {r : StepResult} → r ≡ record { count = count; answer = Ran }
+    → Loaded answer p pred dst r dst′
 unfolding surveyOf asked answersFrom
 alike answer p pred s dst some same f e =
     record {

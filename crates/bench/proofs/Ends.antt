@@ -52,7 +52,8 @@ module _ (n k : ℕ) (file : List ℕ) (whole : length file ≡ 16 * k) (few : n
 
 -- a load into a register, in the vector file that the register is lent out of
 pub targeted : (answer : ℕ → Reading) (p : Plan) (pred z : List ℕ) (n : ℕ) → p .target * n + n ≤ length z → {ys : List ℕ} {r : StepResult}
-    → (let a = p .target * n in Loaded answer p pred (take (a + n - a) (drop a z)) r ys → Targeted answer p pred n z r (take a z ++ (ys ++ drop (a + n - a) (drop a z))))
+    → (let a = p .target * n in Loaded answer p pred (take (a + n - a) (drop a z)) r ys
+    → Targeted answer p pred n z r (take a z ++ (ys ++ drop (a + n - a) (drop a z))))
 targeted answer p pred z n fits {ys} {r} s =
     record {
       report = s .report;
@@ -100,7 +101,9 @@ module _ (l : Lent) (b : Bench) (w : ℕ) where
 
   pub stops : (a : Answer) → planned (l .settings) (b .scalars) w ≡ P.Stop a → (r : StepResult) → r ≡ record { count = 0; answer = a } → Word r b
   unfolding EndsAs prepared
-  stops a h r q = rw (h, q) (ap (λ (after : Bench). record { report = reportOf (record { count = 0; answer = a }); lent = l; bench = after }) (either (eqb (numberOf a) 0) b))
+  stops a h r q =
+      rw (h, q) (ap (λ (after : Bench). record { report = reportOf (record { count = 0; answer = a }); lent = l; bench = after })
+      (either (eqb (numberOf a) 0) b))
 
   pub goes : (p : Plan) → planned (l .settings) (b .scalars) w ≡ P.Go p → (r : StepResult) (after : Bench) → EndsAs (stacked p) l b r after → Word r after
   unfolding EndsAs stacked prepared

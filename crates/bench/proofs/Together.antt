@@ -53,8 +53,12 @@ module _ (r : Area) (a n at : ℕ) (few : n ≤ 4096) (place : at + r .start ≡
   within =
       record {
         held = λ i l. (omega arith, omega arith);
-        right = λ i l. rw (here i) (between (λ x. getD (r .rights) x 0 % 2 ≡ 1) (at / 4096) ((at + i) / 4096) ((at + n - 1) / 4096) (omega arith) (omega arith) (omega arith) first last);
-        bytes = λ i l. let k : i < at + n - at = omega arith in getD-take (at + n - at) (drop at (r .bytes)) i 0 k ∙ getD-drop at (r .bytes) i 0 ∙ ap (λ (j : ℕ). getD (r .bytes) j 0) (sym (here i));
+        right =
+            λ i l. rw (here i) (between (λ x. getD (r .rights) x 0 % 2 ≡ 1) (at / 4096) ((at + i) / 4096) ((at + n - 1) / 4096) (omega arith) (omega arith)
+            (omega arith) first last);
+        bytes =
+            λ i l. let k : i < at + n - at = omega arith in getD-take (at + n - at) (drop at (r .bytes)) i 0 k ∙ getD-drop at (r .bytes) i 0
+            ∙ ap (λ (j : ℕ). getD (r .bytes) j 0) (sym (here i));
       }
 
 -- .. of areas that are taken

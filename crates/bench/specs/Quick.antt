@@ -106,4 +106,5 @@ pub record FillOut (p : Plan) (pred s : List ℕ) (n : ℕ) (dst : List ℕ) (r 
 -- .. when the lanes that are filled from the stretch are done, before their copies
 abbrev pub OwnOut : Plan → List ℕ → List ℕ → ℕ → List ℕ → ℕ → Type 0
 OwnOut p pred s n dst on =
-    LanesOut s 0 (bitsOf (p .rule) pred) (strideOf (p .rule) (bytesOf (p .size))) (p .signed) (bytesOf (p .size)) (bytesOf (p .lane)) n dst on (ownIn p * (8 / bytesOf (p .lane)))
+    LanesOut s 0 (bitsOf (p .rule) pred) (strideOf (p .rule) (bytesOf (p .size))) (p .signed) (bytesOf (p .size)) (bytesOf (p .lane)) n dst on
+    (ownIn p * (8 / bytesOf (p .lane)))

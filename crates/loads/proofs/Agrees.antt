@@ -89,11 +89,15 @@ module _ (l : Lent) (b : Bench) (l′ : Lent) (b′ : Bench) (taken : Accepted l
 
     same-troubles : (e : ℕ) → Wanted e → troubleOf (answersOf l b p e) ≡ troubleOf (answersOf l′ b′ p e)
     unfolding answersIn
-    same-troubles e h = reading-bad-cong (lookOf s) (lookOf s′) (elementAt p e) (bytesOf (p .size)) (below-all p e) (λ k q. same-trouble s s′ (taken .taken) (taken′ .taken) places _ (rights _ (touched e k h q)) _)
+    same-troubles e h =
+        reading-bad-cong (lookOf s) (lookOf s′) (elementAt p e) (bytesOf (p .size)) (below-all p e)
+        (λ k q. same-trouble s s′ (taken .taken) (taken′ .taken) places _ (rights _ (touched e k h q)) _)
 
     same-answers : SameBytes l w b l′ b′ → (e : ℕ) → Wanted e → answersOf l b p e ≡ answersOf l′ b′ p e
     unfolding answersIn
-    same-answers bytes e h = reading-cong (lookOf s) (lookOf s′) (elementAt p e) (bytesOf (p .size)) (below-all p e) (λ k q. same-look s s′ (taken .taken) (taken′ .taken) places _ (rights _ (touched e k h q)) (bytes _ (touched e k h q)))
+    same-answers bytes e h =
+        reading-cong (lookOf s) (lookOf s′) (elementAt p e) (bytesOf (p .size)) (below-all p e)
+        (λ k q. same-look s s′ (taken .taken) (taken′ .taken) places _ (rights _ (touched e k h q)) (bytes _ (touched e k h q)))
 
     surveys : surveyOf (answersOf l b p) p (governing l p) ≡ surveyOf (answersOf l′ b′ p) p (governing l′ p)
     surveys =
@@ -126,7 +130,8 @@ module _ (l : Lent) (b : Bench) (l′ : Lent) (b′ : Bench) (taken : Accepted l
   pick false p q = q
 
   end : {r r′ : Report} {x x′ : Bench} → r ≡ r′ → Same l x l′ x′ → Same l (if eqb (r .number) 0 then x else b) l′ (if eqb (r′ .number) 0 then x′ else b′)
-  end {r} {r′} {x} {x′} h p = subst (λ (q : Report). Same l (if eqb (r .number) 0 then x else b) l′ (if eqb (q .number) 0 then x′ else b′)) h (pick (eqb (r .number) 0) p same)
+  end {r} {r′} {x} {x′} h p =
+      subst (λ (q : Report). Same l (if eqb (r .number) 0 then x else b) l′ (if eqb (q .number) 0 then x′ else b′)) h (pick (eqb (r .number) 0) p same)
 
   module _ (w : ℕ) (rights : SameRights l w b l′ b′) where
     -- a fact of the outcomes, from that of a refusal and that of a load's

@@ -35,7 +35,8 @@ demand-1-promise l w b r l₁ b₁ p =
     subst (λ (o : Outcome). Given l w b (o .report) × ((o .report .number ≡ 0 → ⊥) → (o .lent ≡ l) × (o .bench ≡ b))) (sym p) (told l w b, kept l w b)
 
 -- The count that rows 0, 6 and 7 name is there, and is one number.
-pub demand-1-counted : (l : Lent) (w : ℕ) (b : Bench) (i : Insn) → Ready l w b i → (e : ℕ) → (n : ℕ) × Counted (Active l i) e n × ((k : ℕ) → Counted (Active l i) e k → k ≡ n)
+pub demand-1-counted : (l : Lent) (w : ℕ) (b : Bench) (i : Insn) → Ready l w b i → (e : ℕ)
+    → (n : ℕ) × Counted (Active l i) e n × ((k : ℕ) → Counted (Active l i) e k → k ≡ n)
 demand-1-counted l w b i r e =
     let c = count-exists l b i (r .defined .accepted) (r .defined .long) e in
     (c .0, c .1, λ k d. counted-once (Active l i) d (c .1))

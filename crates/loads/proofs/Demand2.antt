@@ -46,7 +46,8 @@ module _ (l : Lent) (x : List ℕ) (i : Insn) where
 
   -- base + (imm4 × N + e) × m
   pub ld1-immediate : (imm4 : ℕ) → i .shape ≡ Contiguous (Imm imm4) → (e : ℕ)
-      → at e ≡ wrapℤ (pos (scalar x (i .base)) +ℤ (signed4 imm4 *ℤ pos (l .settings .vl / (8 * bytesOf (i .element .lane))) +ℤ pos e) *ℤ pos (bytesOf (i .element .memory)))
+      → at e ≡ wrapℤ (pos (scalar x (i .base)) +ℤ (signed4 imm4 *ℤ pos (l .settings .vl / (8 * bytesOf (i .element .lane))) +ℤ pos e) *ℤ pos
+      (bytesOf (i .element .memory)))
   unfolding elementAt spreadOf
   ld1-immediate imm4 h e = own e h (by-immediate (scalar x (i .base)) (signed4 imm4) _ e _)
 
@@ -68,7 +69,8 @@ module _ (l : Lent) (x : List ℕ) (i : Insn) where
   ld1ro-immediate imm4 h e = own e h (sym (on-from (scalar x (i .base)) (signed4 imm4 *ℤ pos 32) _))
 
   -- LD1RQ and LD1RO, scalar: base + (Xm + e) × m
-  pub block-scalar : (wide : Bool) (rm : ℕ) → i .shape ≡ Block wide (Reg rm) → (e : ℕ) → at e ≡ wrap (scalar x (i .base) + (scalar x rm + e) * bytesOf (i .element .memory))
+  pub block-scalar : (wide : Bool) (rm : ℕ) → i .shape ≡ Block wide (Reg rm) → (e : ℕ)
+      → at e ≡ wrap (scalar x (i .base) + (scalar x rm + e) * bytesOf (i .element .memory))
   unfolding elementAt spreadOf
   block-scalar wide rm h e = own e h (by-register (scalar x (i .base)) (scalar x rm) e _)
 
@@ -91,7 +93,8 @@ demand-2 l w b i r a = subst₂ (Leaves l b i) (sym (lent-kept l w b)) (sym (ran
 abbrev pub Done : Lent → ℕ → Bench → Lent → Bench → Type 0
 Done l w b l₁ b₁ = (i : Insn) × Ready l w b i × AllReadable l b i × Leaves l b i l₁ b₁
 
-pub demand-2-promise : (l : Lent) (w : ℕ) (b : Bench) (r : StepResult) (l₁ : Lent) (b₁ : Bench) → StepPromise l w b r l₁ b₁ → numberOf (r .answer) ≡ 0 → Done l w b l₁ b₁
+pub demand-2-promise : (l : Lent) (w : ℕ) (b : Bench) (r : StepResult) (l₁ : Lent) (b₁ : Bench) → StepPromise l w b r l₁ b₁ → numberOf (r .answer) ≡ 0
+    → Done l w b l₁ b₁
 demand-2-promise l w b r l₁ b₁ p z =
     let d = ran-only l w b (sym (ap (λ (o : Outcome). o .report .number) p) ∙ z) in
     (d .0, d .1, d .2, subst (λ (o : Outcome). Leaves l b (d .0) (o .lent) (o .bench)) (sym p) (demand-2 l w b (d .0) (d .1) (d .2)))

@@ -42,11 +42,17 @@ module _ (l : Lent) (b : Bench) (l′ : Lent) (b′ : Bench) (w : ℕ)
   -- Both give the same answer, count, element and address.
   pub demand-3-answer : r ≡ r′
   demand-3-answer =
-      result-unique r r′ (ap (λ (o : Outcome). o .report) first ∙ same-report l b l′ b′ taken taken′ same w rights ∙ sym (ap (λ (o : Outcome). o .report) second))
+      result-unique r r′ (ap (λ (o : Outcome). o .report) first ∙ same-report l b l′ b′ taken taken′ same w rights
+      ∙ sym (ap (λ (o : Outcome). o .report) second))
 
   -- If the bytes of the active elements are equal as well, vector file and scalars end equal; and where it ran, they are what demand 2 says.
   pub demand-3-end : SameBytes l w b l′ b′ → Same l₁ b₁ l₂ b₂ × (numberOf (r .answer) ≡ 0 → Done l w b l₁ b₁ × Done l′ w b′ l₂ b₂)
   demand-3-end bytes = (
-    subst₂ (λ (o o′ : Outcome). Same (o .lent) (o .bench) (o′ .lent) (o′ .bench)) (sym first) (sym second) (same-after l b l′ b′ taken taken′ same w rights bytes),
-    λ z. (demand-2-promise l w b r l₁ b₁ first z, demand-2-promise l′ w b′ r′ l₂ b₂ second (ap (λ (q : StepResult). numberOf (q .answer)) (sym demand-3-answer) ∙ z)),
+    subst₂ (λ (o o′ : Outcome). Same (o .lent) (o .bench) (o′ .lent) (o′ .bench)) (sym first) (sym second)
+        (same-after l b l′ b′ taken taken′ same w rights bytes),
+    λ z. (
+      demand-2-promise l w b r l₁ b₁ first z,
+      demand-2-promise l′ w b′ r′ l₂ b₂ second
+          (ap (λ (q : StepResult). numberOf (q .answer)) (sym demand-3-answer) ∙ z),
+    ),
   )

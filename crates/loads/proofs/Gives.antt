@@ -19,7 +19,8 @@ use Rattle.loads.specs.Terms.{scalar}
 use Rattle.loads.specs.Plans.{planOf}
 use Rattle.loads.specs.Lanes.{governing}
 use Rattle.loads.specs.Outcomes.{Outcome, answersOf, surveyOf, outcomeOf}
-use Rattle.loads.specs.Steps.{isWide, switchedOn, stackFails, Prepared, Stop, Go, refusals, plannedLoad, plannedBy, planned, atStack, prepared, carriedOut, stepOf}
+use Rattle.loads.specs.Steps.{isWide, switchedOn, stackFails, Prepared, Stop, Go, refusals}
+use Rattle.loads.specs.Steps.{plannedLoad, plannedBy, planned, atStack, prepared, carriedOut, stepOf}
 use Rattle.loads.specs.Given as S
 use Rattle.loads.specs.Said.{Accepted, Active, byteAt}
 use Rattle.loads.specs.Given.{FirstBad, Counted, Wide, On, Defined, Ready, AllReadable, most, Given}
@@ -52,13 +53,17 @@ module _ (l : Lent) (w : ℕ) (b : Bench) where
   unfolding outcomeOf
   carried i ready =
       ⊎-elim
-      (λ c. subst (Given l w b) (sym (survey-is l b i a long ∙ walk-clear (want l b i a long) (answer l b i a long) 0 0 _ c ∙ ap (λ (n : ℕ). report 0 n 0 0) (zero-add _))) (S.ran i ready (all-readable l b i a long c) (counts-all l b i a long)))
+      (λ c. subst (Given l w b)
+      (sym (survey-is l b i a long ∙ walk-clear (want l b i a long) (answer l b i a long) 0 0 _ c ∙ ap (λ (n : ℕ). report 0 n 0 0) (zero-add _)))
+      (S.ran i ready (all-readable l b i a long c) (counts-all l b i a long)))
       (λ s.
       let f = stops-first l b i a long s in
       let t = s .to in
       let n : 0 + many (want l b i a long) 0 (s .element - 0) ≡ many (want l b i a long) 0 (s .element) = rw (zero-add, sub-zero) in
-      let told : surveyOf (answer l b i a long) (plan i) (governing l (plan i)) ≡ report (faultNumber (s .kind)) (many (want l b i a long) 0 (s .element)) (s .element) (byteAt l (b .scalars) i (s .element) (f .0)) =
-      survey-is l b i a long ∙ walk-stopped (want l b i a long) (answer l b i a long) 0 0 (elements l b i a long) s ∙ (λ j. report (faultNumber (s .kind)) (n j) (s .element) (f .2 j)) in
+      let told : surveyOf (answer l b i a long) (plan i) (governing l (plan i)) ≡ report (faultNumber (s .kind)) (many (want l b i a long) 0 (s .element))
+      (s .element) (byteAt l (b .scalars) i (s .element) (f .0)) =
+      survey-is l b i a long ∙ walk-stopped (want l b i a long) (answer l b i a long) 0 0 (elements l b i a long) s
+      ∙ (λ j. report (faultNumber (s .kind)) (n j) (s .element) (f .2 j)) in
       subst (Given l w b) (sym told) (faulted i ready (s .kind) (s .element) (f .0) _ (f .1) (counts l b i a long (s .element) (omega arith))))
       (clear-or-stopped (want l b i a long) (answer l b i a long) 0 (elements l b i a long))
     where
@@ -83,7 +88,12 @@ module _ (l : Lent) (w : ℕ) (b : Bench) where
   unfolding plannedLoad refusals
   ways a i reads =
       if-cases (λ q. Way i (stacked q)) (isWide (i .shape) && not (l .settings .f64mm)) _ _
-      (λ t. inr (_, S.no-f64mm i a reads (wide-exactly (i .shape) .0 (and-left (isWide (i .shape)) _ t)) (not-true _ (and-right (isWide (i .shape)) _ t)), refl))
+      (λ t. inr (
+        _,
+        S.no-f64mm i a reads (wide-exactly (i .shape) .0 (and-left (isWide (i .shape)) _ t))
+            (not-true _ (and-right (isWide (i .shape)) _ t)),
+        refl,
+      ))
       (λ t.
       let has : Wide i → l .settings .f64mm ≡ true = λ v. not-false _ (and-other (isWide (i .shape)) _ t (wide-exactly (i .shape) .1 v)) in
       if-cases (λ q. Way i (stacked q)) (not (switchedOn (l .settings) (i .shape))) _ _
@@ -91,13 +101,21 @@ module _ (l : Lent) (w : ℕ) (b : Bench) where
       (λ u.
       let on : On l i = on-exactly l (i .shape) .0 (not-false _ u) in
       if-cases (λ q. Way i (stacked q)) (isWide (i .shape) && ltb (l .settings .vl) 256) _ _
-      (λ v. let q = wide-exactly (i .shape) .0 (and-left (isWide (i .shape)) _ v) in inr (_, S.short i a reads q (has q) on (ltb-true _ _ (and-right (isWide (i .shape)) _ v)), refl))
+      (λ v. let q = wide-exactly (i .shape) .0 (and-left (isWide (i .shape)) _ v) in inr
+      (_, S.short i a reads q (has q) on (ltb-true _ _ (and-right (isWide (i .shape)) _ v)), refl))
       (λ v.
       let long : Wide i → 256 ≤ l .settings .vl = λ q. ltb-false _ _ (and-other (isWide (i .shape)) _ v (wide-exactly (i .shape) .1 q)) in
       let d : Defined l w b i = record { accepted = a; reads = reads; f64mm = has; on = on; long = long } in
       if-cases (Way i) (stackFails (b .scalars) (plan i) (governing l (plan i))) _ _
       (λ f. let r = stack-exactly l b a i long .0 f in inr (_, S.stack i d (r .0) (r .1) (r .2), refl))
-      (λ f. inl (record { defined = d; stack = λ h c. ⊎-elim (λ z. eqb-true _ 0 z) (λ z. never (stack-exactly l b a i long .1 (h, c, eqb-false _ 0 z)) f) (true-or-false (eqb (scalar (b .scalars) 31 % 16) 0)) }, refl))
+      (λ f. inl (
+        record {
+          defined = d;
+          stack = λ h c. ⊎-elim (λ z. eqb-true _ 0 z) (λ z. never (stack-exactly l b a i long .1 (h, c, eqb-false _ 0 z)) f)
+              (true-or-false (eqb (scalar (b .scalars) 31 % 16) 0));
+        },
+        refl,
+      ))
       )))
 
   load : Accepted l b → (i : Insn) → readOf w ≡ Is i → Says (of-load i)
@@ -127,7 +145,9 @@ module _ (l : Lent) (w : ℕ) (b : Bench) where
   f64mm-fine i h = off _ (λ t. never (h (wide-exactly (i .shape) .0 (and-left (isWide (i .shape)) _ t))) (not-true _ (and-right (isWide (i .shape)) _ t)))
 
   length-fine : (i : Insn) → (Wide i → 256 ≤ l .settings .vl) → (isWide (i .shape) && ltb (l .settings .vl) 256) ≡ false
-  length-fine i h = off _ (λ t. let k = h (wide-exactly (i .shape) .0 (and-left (isWide (i .shape)) _ t)) in let g = ltb-true (l .settings .vl) 256 (and-right (isWide (i .shape)) _ t) in omega arith)
+  length-fine i h =
+      off _ (λ t. let k = h (wide-exactly (i .shape) .0 (and-left (isWide (i .shape)) _ t)) in let g = ltb-true (l .settings .vl) 256
+      (and-right (isWide (i .shape)) _ t) in omega arith)
 
   -- a defined load comes to the stack rule
   defined : (i : Insn) (d : Defined l w b i) → of-load i ≡ (if stackFails (b .scalars) (plan i) (governing l (plan i)) then Stop (refusal 5) else Go (plan i))
@@ -135,13 +155,15 @@ module _ (l : Lent) (w : ℕ) (b : Bench) where
   defined i d = rw (f64mm-fine i (d .f64mm), on-exactly l (i .shape) .1 (d .on), length-fine i (d .long))
 
   -- .. and goes on, or stops, by it
-  at-stack : (i : Insn) → Defined l w b i → (t : Bool) → stackFails (b .scalars) (plan i) (governing l (plan i)) ≡ t → of-load i ≡ (if t then Stop (refusal 5) else Go (plan i))
+  at-stack : (i : Insn) → Defined l w b i → (t : Bool) → stackFails (b .scalars) (plan i) (governing l (plan i)) ≡ t
+      → of-load i ≡ (if t then Stop (refusal 5) else Go (plan i))
   at-stack i d t h = defined i d ∙ rw h
 
   pub ready-goes : (i : Insn) (r : Ready l w b i) → stepOf l w b ≡ carriedOut l b (Go (plan i))
   ready-goes i r =
       let d = r .defined in
-      let f = off (stackFails (b .scalars) (plan i) (governing l (plan i))) (λ t. let s = stack-exactly l b (d .accepted) i (d .long) .0 t in s .2 (r .stack (s .0) (s .1))) in
+      let f = off (stackFails (b .scalars) (plan i) (governing l (plan i)))
+      (λ t. let s = stack-exactly l b (d .accepted) i (d .long) .0 t in s .2 (r .stack (s .0) (s .1))) in
       evaluated (Is i) (d .accepted) (d .reads) ∙ ap (carriedOut l b) (at-stack i d false f)
 
   told-by : (o : Outcome) (r : Report) → stepOf l w b ≡ o → o .report ≡ r → stepOf l w b .report ≡ r
@@ -159,7 +181,8 @@ module _ (l : Lent) (w : ℕ) (b : Bench) where
       let s = first-stops l b i a long t e k f in
       let h = asks l b i a long e .1 (f .active) .0 in
       let m : 0 + many (want l b i a long) 0 (e - 0) ≡ n = zero-add _ ∙ rw sub-zero (counted-once (Active l i) (counts l b i a long e (omega arith)) c) in
-      surveyed i r _ (survey-is l b i a long ∙ walk-stopped (want l b i a long) (answer l b i a long) 0 0 (elements l b i a long) s ∙ (λ j. report (faultNumber t) (m j) e (byteAt l (b .scalars) i e k)))
+      surveyed i r _ (survey-is l b i a long ∙ walk-stopped (want l b i a long) (answer l b i a long) 0 0 (elements l b i a long) s
+      ∙ (λ j. report (faultNumber t) (m j) e (byteAt l (b .scalars) i e k)))
 
   pub meant : (r : Report) → Given l w b r → stepOf l w b .report ≡ r
   unfolding stepOf plannedLoad refusals
@@ -173,7 +196,9 @@ module _ (l : Lent) (w : ℕ) (b : Bench) where
   meant r (S.no-f64mm i a e v f) = loads i a e ∙ rw (wide-exactly (i .shape) .1 v, f)
   meant r (S.switched-off i a e has o) = loads i a e ∙ rw (f64mm-fine i has, off (switchedOn (l .settings) (i .shape)) (λ t. o (on-exactly l (i .shape) .0 t)))
   meant r (S.short i a e v has on s) = loads i a e ∙ rw (f64mm-fine i (λ _. has), on-exactly l (i .shape) .1 on, wide-exactly (i .shape) .1 v, lt-ltb _ _ s)
-  meant r (S.stack i d h c z) = loads i (d .accepted) (d .reads) ∙ ap (λ (p : Prepared). carriedOut l b p .report) (at-stack i d true (stack-exactly l b (d .accepted) i (d .long) .1 (h, c, z)))
+  meant r (S.stack i d h c z) =
+      loads i (d .accepted) (d .reads)
+      ∙ ap (λ (p : Prepared). carriedOut l b p .report) (at-stack i d true (stack-exactly l b (d .accepted) i (d .long) .1 (h, c, z)))
   meant r (S.no-memory i e k ready f c) = stopped i ready Nowhere e k _ f c
   meant r (S.denied i e k ready f c) = stopped i ready Denied e k _ f c
 

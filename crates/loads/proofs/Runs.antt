@@ -92,7 +92,8 @@ module _ (l : Lent) (w : ℕ) (b : Bench) (i : Insn) (ready : Ready l w b i) (al
   unfolding benchAfter
   lane-said k = let a = ready .defined .accepted in lane-is answer l (b .vectors) plan (a .vectors) in-file k
 
-  value-said : (k e v : ℕ) → k < N l i → Takes l i k e → answer e ≡ Value v → laneValue answer plan (governing l plan) k ≡ extended (i .element .signed) (m i) (L i) v
+  value-said : (k e v : ℕ) → k < N l i → Takes l i k e → answer e ≡ Value v
+      → laneValue answer plan (governing l plan) k ≡ extended (i .element .signed) (m i) (L i) v
   unfolding laneValue
   value-said k e v h t r =
       let a = ready .defined .accepted in

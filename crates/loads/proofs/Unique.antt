@@ -17,7 +17,8 @@ use Rattle.loads.specs.declared.Answer.the-variants.{Ran, SetUp, Outside
 
 -- the answer of a number, an element and an address
 unfoldable pub answerOf : ℕ → ℕ → ℕ → Answer
-answerOf n e a = getD (Ran ∷ SetUp ∷ Outside ∷ Undefined ∷ SwitchedOff ∷ Stack ∷ Faulted Nowhere (record { 0 = a }) e ∷ Faulted Denied (record { 0 = a }) e ∷ []) n Ran
+answerOf n e a =
+    getD (Ran ∷ SetUp ∷ Outside ∷ Undefined ∷ SwitchedOff ∷ Stack ∷ Faulted Nowhere (record { 0 = a }) e ∷ Faulted Denied (record { 0 = a }) e ∷ []) n Ran
 
 back : (a : Answer) → answerOf (numberOf a) (elementOf a) (addressOf a) ≡ a
 unfolding answerOf
@@ -44,7 +45,8 @@ result-unique r s e = sym (again r) ∙ ap resultOf e ∙ again s
 -- document 01's table, in its order: 0 ran, 1 set-up, 2 outside, 3 undefined, 4 switched off, 5 stack, 6 no memory, 7 denied; "Both carry
 -- its address and its lane. Other answers carry 0 for both."
 pub answers-told : (n : ℕ) (a : Address) (e : ℕ)
-    → map (λ x. reportOf (record { count = n; answer = x })) (Ran ∷ SetUp ∷ Outside ∷ Undefined ∷ SwitchedOff ∷ Stack ∷ Faulted Nowhere a e ∷ Faulted Denied a e ∷ [])
+    → map (λ x. reportOf (record { count = n; answer = x }))
+    (Ran ∷ SetUp ∷ Outside ∷ Undefined ∷ SwitchedOff ∷ Stack ∷ Faulted Nowhere a e ∷ Faulted Denied a e ∷ [])
     ≡ report 0 n 0 0 ∷ report 1 n 0 0 ∷ report 2 n 0 0 ∷ report 3 n 0 0 ∷ report 4 n 0 0 ∷ report 5 n 0 0 ∷ report 6 n e (a .0) ∷ report 7 n e (a .0) ∷ []
 answers-told n a e = refl
 

@@ -75,5 +75,7 @@ pub data Given (l : Lent) (w : ℕ) (b : Bench) : Report → Type 0 where
   switched-off : (i : Insn) → Accepted l b → readOf w ≡ Is i → (Wide i → l .settings .f64mm ≡ true) → (On l i → ⊥) → Given l w b (report 4 0 0 0)
   short : (i : Insn) → Accepted l b → readOf w ≡ Is i → Wide i → l .settings .f64mm ≡ true → On l i → l .settings .vl < 256 → Given l w b (report 3 0 0 0)
   stack : (i : Insn) → Defined l w b i → i .base ≡ 31 → Checks l i → (scalar (b .scalars) 31 % 16 ≡ 0 → ⊥) → Given l w b (report 5 0 0 0)
-  no-memory : {n : ℕ} (i : Insn) (e k : ℕ) → Ready l w b i → FirstBad Missing l b i e k → Counted (Active l i) e n → Given l w b (report 6 n e (byteAt l (b .scalars) i e k))
-  denied : {n : ℕ} (i : Insn) (e k : ℕ) → Ready l w b i → FirstBad Forbidden l b i e k → Counted (Active l i) e n → Given l w b (report 7 n e (byteAt l (b .scalars) i e k))
+  no-memory : {n : ℕ} (i : Insn) (e k : ℕ) → Ready l w b i → FirstBad Missing l b i e k → Counted (Active l i) e n
+      → Given l w b (report 6 n e (byteAt l (b .scalars) i e k))
+  denied : {n : ℕ} (i : Insn) (e k : ℕ) → Ready l w b i → FirstBad Forbidden l b i e k → Counted (Active l i) e n
+      → Given l w b (report 7 n e (byteAt l (b .scalars) i e k))

@@ -17,7 +17,8 @@ use Rattle.loads.specs.Plans.{spreadOf}
 use Rattle.loads.specs.Lanes.{governing, bitOf, laneActive, wanted, asked, takes, checksStack, elementAt}
 use Rattle.loads.specs.Outcomes.{answersIn, surveyOf, extended, laneValue, registerByte, registerOf, baseAfter, scalarsAfter, benchAfter, outcomeOf}
 use Rattle.loads.specs.Steps.{stackFails, refusals, plannedLoad, planned, prepared, stepOf}
-use Rattle.readings.proofs.Cases.{Case, allRight, every, none, only, _≔_, sp, pc, zone, empty, page, on, sveOff, simdOff, f64mmAndSveOff, setUp, ran, faults, refuses, rising, eight, zeros, nines, copies, plain}
+use Rattle.readings.proofs.Cases.{Case, allRight, every, none, only, _≔_, sp, pc, zone, empty, page, on}
+use Rattle.readings.proofs.Cases.{sveOff, simdOff, f64mmAndSveOff, setUp, ran, faults, refuses, rising, eight, zeros, nines, copies, plain}
 
 -- the starred rows, in the order of the scope of work
 abbrev starred : List Case
@@ -59,7 +60,8 @@ ours =
     -- immediate counts active lanes, bytes of one lane, or lanes that are as wide in memory as in the register; an SVE load asks the
     -- SIMD switch; P0 or Z0 whichever register is named.
     ran 0xA5A1BFDF
-    (setUp (simdOff 256) (only 256 7 (0x1E ∷ 0xEE ∷ 0xEE ∷ 0xE1 ∷ [])) (page (nines 8 ++ (0x11 ∷ 0x92 ∷ 0x13 ∷ 0x14 ∷ 0x15 ∷ 0x16 ∷ 0x17 ∷ 0x18 ∷ []) ++ nines 32)) empty (30 ≔ 4096 ∷ []))
+    (setUp (simdOff 256) (only 256 7 (0x1E ∷ 0xEE ∷ 0xEE ∷ 0xE1 ∷ []))
+    (page (nines 8 ++ (0x11 ∷ 0x92 ∷ 0x13 ∷ 0x14 ∷ 0x15 ∷ 0x16 ∷ 0x17 ∷ 0x18 ∷ []) ++ nines 32)) empty (30 ≔ 4096 ∷ []))
     2 31 (zeros 4 ++ (0x92 ∷ 0xFF ∷ 0xFF ∷ 0xFF ∷ []) ++ zeros 16 ++ (0x17 ∷ 0 ∷ 0 ∷ 0 ∷ []) ++ zeros 4) []
     -- LD1H {Z4.D}, P0/Z, [X1, X2, LSL #1] with X2 = 3: lane e at X1 + (3 + e) × 2. Lane 0, inactive, lies in RAM's only page, which is
     -- denied; lane 1 in flash, right behind it. Refused: Xm scaled by the lane; a whole vector fetched and then masked; an extension
@@ -80,7 +82,8 @@ ours =
     -- two of RAM, at 0. Refused: addresses that wrap for an element and not for its bytes; an element looked up in one area; an area
     -- that must end below 2^64; imm6 scaled by the lane; a read only if lane 0 is active.
     ∷ ran 0x84C38CC2
-    (setUp (on 256) (only 256 3 (0 ∷ 1 ∷ 0 ∷ 1 ∷ [])) (zone (2 ^ 64 - 4096) (nines 4094 ++ (0x01 ∷ 0x02 ∷ [])) (1 ∷ [])) (zone 0 (0x03 ∷ 0x84 ∷ nines 30) (255 ∷ [])) (6 ≔ (2 ^ 64 - 14) ∷ []))
+    (setUp (on 256) (only 256 3 (0 ∷ 1 ∷ 0 ∷ 1 ∷ [])) (zone (2 ^ 64 - 4096) (nines 4094 ++ (0x01 ∷ 0x02 ∷ [])) (1 ∷ []))
+    (zone 0 (0x03 ∷ 0x84 ∷ nines 30) (255 ∷ [])) (6 ≔ (2 ^ 64 - 14) ∷ []))
     1 2 (copies 2 (zeros 8 ++ (0x01 ∷ 0x02 ∷ 0x03 ∷ 0x84 ∷ 0xFF ∷ 0xFF ∷ 0xFF ∷ 0xFF ∷ []))) []
     -- LD1R {V7.2D}, [SP], #8 with PC = 2^64 - 4. Refused: post-index 31 adds a scalar, nothing, or the bytes filled; PC is not taken modulo
     -- 2^64.
@@ -107,5 +110,7 @@ abbrev pub table : List Case
 table = starred ++ ours
 
 pub readings : allRight table ≡ true
-unfolding replaced sizeOf dtypes dtypeOf scalarOf families readOf movedOf areaTaken apart areasTaken holds placeOf judged lookOf readingOf accepted signed4 spreadOf governing bitOf laneActive wanted asked takes elementAt answersIn surveyOf extended laneValue registerByte registerOf baseAfter scalarsAfter benchAfter outcomeOf checksStack stackFails refusals plannedLoad planned prepared stepOf
+unfolding replaced sizeOf dtypes dtypeOf scalarOf families readOf movedOf areaTaken apart areasTaken holds placeOf judged lookOf readingOf accepted signed4
+    spreadOf governing bitOf laneActive wanted asked takes elementAt answersIn surveyOf extended laneValue registerByte registerOf baseAfter scalarsAfter
+    benchAfter outcomeOf checksStack stackFails refusals plannedLoad planned prepared stepOf
 readings = refl

@@ -16,6 +16,13 @@ accepted-step-spec =
     let e = (prepares _ _ _ (g .pre) _ (c .before .before .before .before .before .prepare .ensures) ∙ c .before .before .before .plan .given .1) in
     (g .pre, (planned-sound _ _ (a .allowed) _ _ e, planned-shaped _ _ (a .allowed) _ _ e)))
     (λ c. refl)
-    (λ c. stops _ _ _ _ (prepares _ _ _ (c .before .before .before .before .before .before .before .before .before .before .before .before .before .pre) _ (c .before .before .before .before .prepare .ensures) ∙ c .before .before .answer .given .1) _ (c .ended .ensures))
+    (λ c.
+    let m = c .before .before .before .before in
+    let g = m .before .before .before .before .before .before .before .before .before in
+    stops _ _ _ _ (prepares _ _ _ (g .pre) _ (m .prepare .ensures) ∙ c .before .before .answer .given .1) _ (c .ended .ensures))
     (λ c. c .before .before .before .z .given) (λ c. c .before .x .given)
-    (λ c. goes _ _ _ _ (prepares _ _ _ (c .before .before .before .before .before .before .before .before .before .before .before .before .before .before .before .before .before .before .before .pre) _ (c .before .before .before .before .before .before .before .before .before .before .prepare .ensures) ∙ c .before .before .before .before .before .before .before .before .plan .given .1) _ _ (c .before .before .before .before .carry .ensures)))
+    (λ c.
+    let d = c .before .before .before .before in
+    let m = d .before .before .before .before .before .before in
+    let g = m .before .before .before .before .before .before .before .before .before in
+    goes _ _ _ _ (prepares _ _ _ (g .pre) _ (m .prepare .ensures) ∙ d .before .before .before .before .plan .given .1) _ _ (d .carry .ensures)))

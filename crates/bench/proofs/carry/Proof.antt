@@ -26,7 +26,9 @@ module _ (c : tie.After-governing) where
   abbrev pred : List ℕ
   pred = c .governing .result .now
 
-  governed : pred ≡ governing (lentOf (g .args .settings) (now (g .args .p)) (g .args .map) (now (g .args .flash)) (now (g .args .flash-rights)) (now (g .args .ram-rights))) (g .args .plan)
+  governed : pred ≡ governing
+      (lentOf (g .args .settings) (now (g .args .p)) (g .args .map) (now (g .args .flash)) (now (g .args .flash-rights)) (now (g .args .ram-rights)))
+      (g .args .plan)
   unfolding governing
   governed = c .governing .ensures
 
@@ -39,7 +41,9 @@ module _ (c : tie.After-governing) where
         shaped = g .pre .1 .1;
         most = n .1;
         whole = n .2;
-        decided = λ h. subst (λ (xs : List ℕ). g .args .settings .vl / 8 ≤ 8 * length xs) (sym (c .governing .ensures)) (decided _ _ (now (g .args .p)) (a .predicates) (n .3) (g .args .plan .rule) (g .args .plan .governing) (g .pre .1 .0 .governed) h);
+        decided =
+            λ h. subst (λ (xs : List ℕ). g .args .settings .vl / 8 ≤ 8 * length xs) (sym (c .governing .ensures))
+            (decided _ _ (now (g .args .p)) (a .predicates) (n .3) (g .args .plan .rule) (g .args .plan .governing) (g .pre .1 .0 .governed) h);
       }
 
 pub carry-spec : {M : Type 1} → statement M
@@ -51,17 +55,21 @@ carry-spec =
     (g .pre .1 .0, (lanes-in (g .args .settings .vl) (a .allowed) .0, a .predicates)))
     (λ c κs. let s = g (c .before) in (s .pre .1 .0, accepted-exactly _ _ .0 (s .pre .0) .scalars))
     (λ c κs. tt) (λ c. refl)
-    (λ c. at-stack _ _ _ _ (governed (c .before .before .before .before)) (sym (c .before .before .stack-fails .ensures) ∙ c .before .if1 .taken) _ (c .ended .ensures))
+    (λ c. at-stack _ _ _ _ (governed (c .before .before .before .before)) (sym (c .before .before .stack-fails .ensures) ∙ c .before .if1 .taken) _
+    (c .ended .ensures))
     (λ c κs. let t = c .before .before .before .before .before in let a = accepted-exactly _ _ .0 (g t .pre .0) in (a .taken, (fit t, a .vectors)))
     (λ c κs. tt)
-    (λ c κs. let s = g (c .before .before .before .before .before .before .before .before .before .before .before) in (s .pre .1 .0, accepted-exactly _ _ .0 (s .pre .0) .scalars))
+    (λ c κs. let s = g (c .before .before .before .before .before .before .before .before .before .before .before) in
+    (s .pre .1 .0, accepted-exactly _ _ .0 (s .pre .0) .scalars))
     (λ c. c .before .before .before .before .before .before .before .z .given) (λ c. c .before .x .given)
     (λ c.
     let t = c .before .before .before .before .before .before .before .before in
-    ran _ _ _ _ (governed (t .before .before .before .before .before .before)) (sym (t .before .before .before .before .stack-fails .ensures) ∙ t .before .before .before .if1 .left) (t .target .result) _ (t .target .ensures)
+    ran _ _ _ _ (governed (t .before .before .before .before .before .before))
+    (sym (t .before .before .before .before .stack-fails .ensures) ∙ t .before .before .before .if1 .left) (t .target .result) _ (t .target .ensures)
     (sym (c .before .before .before .before .before .number .ensures) ∙ c .before .before .before .before .if2 .taken) _ (c .before .before .scalars .ensures))
     (λ c. c .before .before .before .z .given) (λ c. refl)
     (λ c.
     let t = c .before .before .before .before in
-    faulted _ _ _ _ (governed (t .before .before .before .before .before .before)) (sym (t .before .before .before .before .stack-fails .ensures) ∙ t .before .before .before .if1 .left) (t .target .result) _ (t .target .ensures)
+    faulted _ _ _ _ (governed (t .before .before .before .before .before .before))
+    (sym (t .before .before .before .before .stack-fails .ensures) ∙ t .before .before .before .if1 .left) (t .target .result) _ (t .target .ensures)
     (λ z. c .if2 .left (c .before .number .ensures ∙ z))))

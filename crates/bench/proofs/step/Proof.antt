@@ -9,11 +9,13 @@ use Rattle.bench.proofs.step.Tie as tie
 pub step-spec : {M : Type 1} → statement M
 step-spec =
     tie.close (tie.spec (λ c κs. tt) (λ c κs. tt)
-    (λ c κs. let t = c .before .before in accepts _ _ 0 _ _ (t .before .before .before .files-accepted .ensures) (t .before .taken .ensures) ∙ both _ _ (t .before .before .if1 .taken) (t .if2 .taken))
+    (λ c κs. let t = c .before .before in accepts _ _ 0 _ _ (t .before .before .before .files-accepted .ensures) (t .before .taken .ensures)
+    ∙ both _ _ (t .before .before .if1 .taken) (t .if2 .taken))
     (λ c. c .before .before .before .z .given) (λ c. c .before .x .given)
     (λ c.
     let t = c .before .before .before .before .before .before .before in
-    steps _ _ _ (accepts _ _ 0 _ _ (t .before .before .before .files-accepted .ensures) (t .before .taken .ensures) ∙ both _ _ (t .before .before .if1 .taken) (t .if2 .taken)) _ _ (c .before .before .before .before .accepted-step .ensures))
+    steps _ _ _ (accepts _ _ 0 _ _ (t .before .before .before .files-accepted .ensures) (t .before .taken .ensures)
+    ∙ both _ _ (t .before .before .if1 .taken) (t .if2 .taken)) _ _ (c .before .before .before .before .accepted-step .ensures))
     (λ c κs. tt)
     (λ c.
     ⊎-elim

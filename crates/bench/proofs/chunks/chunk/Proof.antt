@@ -58,7 +58,8 @@ chunk-spec =
     (λ c.
     let g = c .before .before .before .before .before .before .before in
     let z = c .before .before .before .before .if1 .taken in
-    rw z (chunk-off (now (g .args .stretch)) (g .args .from) (g .args .stride) (g .args .signed) (g .args .size) (g .args .width) _ (g .pre .1 .even) (g .pre .0) (c .before .before .zeros .ensures)))
+    rw z (chunk-off (now (g .args .stretch)) (g .args .from) (g .args .stride) (g .args .signed) (g .args .size) (g .args .width) _ (g .pre .1 .even)
+    (g .pre .0) (c .before .before .zeros .ensures)))
     (λ c. some-width _ (c .before .before .before .pre .1 .even))
     (λ c. (zero-le, refl, unfilled-of _ _ _ _ (c .before .before .before .pre .0)))
     (λ c. small c (le-add-right _ _)) (λ c. small c (le-refl _))
@@ -70,7 +71,10 @@ chunk-spec =
     (λ c κs. tt) (λ c κs. tt)
     (λ c.
     let t = c .before .before .before .before .before .before .before .before in
-    rw (c .one-if .ensures, t .before .loop .inv .1) (fits-below {n = 8} tt (le-trans (next-most (λ k. bitOf (g t .args .byte ∷ []) (k * g t .args .width)) (l t) (c .before .before .before .before .before .before .active .result)) (next (few t)))))
+    rw (c .one-if .ensures, t .before .loop .inv .1)
+    (fits-below {n = 8} tt
+    (le-trans (next-most (λ k. bitOf (g t .args .byte ∷ []) (k * g t .args .width)) (l t) (c .before .before .before .before .before .before .active .result))
+    (next (few t)))))
     (λ c. let t = c .before .before .before .before .before .before .before .before in fits-below {n = 8} tt (next (few t)))
     (λ c. less (c .before .before .before .before .before .before .before .before .loop-test .taken))
     (λ c.
@@ -78,7 +82,8 @@ chunk-spec =
     let a = c .before .before .before .before .before .before .active .ensures in (
       next (t .loop-test .taken),
       rw (c .one-if .ensures, a, t .before .loop .inv .1) (many-next (λ k. bitOf (g t .args .byte ∷ []) (k * g t .args .width)) (l t)),
-      lane-turn _ _ _ _ _ _ _ (t .before .loop .inv .2) (room t) _ a _ (c .before .before .before .before .before .lane-from .ensures) _ (c .before .before .before .put .ensures),
+      lane-turn _ _ _ _ _ _ _ (t .before .loop .inv .2) (room t) _ a _ (c .before .before .before .before .before .lane-from .ensures) _
+          (c .before .before .before .put .ensures),
     ))
     (λ c. c .before .loop .inv .2 .size ∙ sym (c .before .before .before .before .before .pre .0))
     (λ c.

@@ -42,9 +42,12 @@ module _ (t : tie.In-loop Inv-loop μ-loop) where
   room = le-trans (chunk-room (g .pre .0) c (t .loop-test .taken)) (le-of-eq (sym (t .before .loop .inv .2 .size)))
 
   -- the lanes that are on, of this chunk and of those before it
-  counts : many (λ l. bitOf (now (g .args .bits)) (l * g .args .width)) 0 (c * per) + many (λ l. bitOf (getD (now (g .args .bits)) c 0 ∷ []) (l * g .args .width)) 0 per
+  counts : many (λ l. bitOf (now (g .args .bits)) (l * g .args .width)) 0 (c * per) + many
+      (λ l. bitOf (getD (now (g .args .bits)) c 0 ∷ []) (l * g .args .width)) 0 per
       ≡ many (λ l. bitOf (now (g .args .bits)) (l * g .args .width)) 0 ((c + 1) * per)
-  counts = count-turn (now (g .args .stretch)) (now (g .args .bits)) (g .args .stride) (g .args .signed) (g .args .size) (g .args .width) per c (g .pre .0 .even) (some-width _ (g .pre .0 .even))
+  counts =
+      count-turn (now (g .args .stretch)) (now (g .args .bits)) (g .args .stride) (g .args .signed) (g .args .size) (g .args .width) per c (g .pre .0 .even)
+      (some-width _ (g .pre .0 .even))
 
 pub chunks-spec : {M : Type 1} → statement M
 chunks-spec =
@@ -70,11 +73,17 @@ chunks-spec =
     let r = t .before .before .chunk .ensures in (
       next (u .loop-test .taken),
       rw (u .before .loop .inv .1, r .lanes-on) (counts u),
-      chunk-turn _ _ _ _ _ _ _ _ (g u .pre .0 .even) (some-width _ (g u .pre .0 .even)) (u .before .loop .inv .2) (chunk-room (g u .pre .0) (c u) (u .loop-test .taken)) _ (r .filled),
+      chunk-turn _ _ _ _ _ _ _ _ (g u .pre .0 .even) (some-width _ (g u .pre .0 .even)) (u .before .loop .inv .2)
+          (chunk-room (g u .pre .0) (c u) (u .loop-test .taken)) _ (r .filled),
     ))
     (λ t. t .before .loop .inv .2 .size)
     (λ t.
     let u = t .before .loop in
     let a = t .before .before .before .before .before in
     let e : u .c ≡ a .args .own = omega (arith, u .inv .0, t .loop-test .left) in
-    record { lanes-on = u .inv .1 ∙ ap (λ (k : ℕ). many (λ l. bitOf (now (a .args .bits)) (l * a .args .width)) 0 (k * (8 / a .args .width))) e; filled = chunks-filled (8 / a .args .width) (a .pre .0 .even) (rw e at (u .inv .2)) }))
+    record {
+      lanes-on = u .inv .1
+          ∙ ap (λ (k : ℕ). many (λ l. bitOf (now (a .args .bits)) (l * a .args .width)) 0 (k * (8 / a .args .width))) e;
+      filled =
+          chunks-filled (8 / a .args .width) (a .pre .0 .even) (rw e at (u .inv .2));
+    }))

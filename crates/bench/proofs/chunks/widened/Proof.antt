@@ -29,6 +29,7 @@ widened-spec =
     (λ c.
     let g = c .before .before in
     let t = rw (is g) at (c .before .if1 .taken) in
-    let e : 18446744073709551615 - (half g - 1 + half g) ≡ 2 ^ 64 - 2 ^ (8 * g .args .size) = rw (twice (g .args .size) (g .pre .0) (g .pre .1)) (omega (arith, few g)) in
+    let e : 18446744073709551615 - (half g - 1 + half g) ≡ 2 ^ 64 - 2 ^ (8 * g .args .size) = rw (twice (g .args .size) (g .pre .0) (g .pre .1))
+    (omega (arith, few g)) in
     c .wrapping-add-u64 .ensures ∙ rw (is g, t, e))
     (λ c. let t = rw (is (c .before)) at (c .if1 .left) in rw t (omega arith)))

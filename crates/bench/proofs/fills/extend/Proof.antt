@@ -20,7 +20,8 @@ extend-spec =
     (λ c κs. tt)
     (λ c.
     let g = c .before .before .before .before .args in
-    let t = rw (c .before .before .before .largest .ensures, sign-test (bytesOf (g .size)) (bytes-some (g .size)) (bytes-few (g .size)) (g .v)) at (c .before .before .if1 .taken) in
+    let t = rw (c .before .before .before .largest .ensures, sign-test (bytesOf (g .size)) (bytes-some (g .size)) (bytes-few (g .size)) (g .v)) at
+    (c .before .before .if1 .taken) in
     c .wrapping-add-u64 .ensures ∙ rw (c .before .largest2 .ensures, c .before .before .before .largest .ensures, above (g .size) (g .lane), t))
     (λ c.
     let g = c .before .before .args in

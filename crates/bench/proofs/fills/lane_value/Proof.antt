@@ -15,5 +15,6 @@ lane-value-spec =
     let g = c .before .before .before .before .before .before .before .before in
     omega (arith, mod-le (g .args .l) (g .args .plan .elements)))
     (λ c κs. search needs)
-    (λ c. c .extend .ensures ∙ rw (sym (c .before .before .before .before .takes-element .ensures) ∙ c .before .before .before .if1 .taken, c .before .value .ensures))
+    (λ c. c .extend .ensures
+    ∙ rw (sym (c .before .before .before .before .takes-element .ensures) ∙ c .before .before .before .if1 .taken, c .before .value .ensures))
     (λ c. rw (sym (c .before .takes-element .ensures) ∙ c .if1 .left)))

@@ -22,7 +22,12 @@ zeros-spec =
     (λ c. (search needs, search needs, λ j l. refl, λ j k l. absurd (omega arith)))
     (λ c. search needs) (λ c. search needs) (λ c. search needs)
     (λ c.
-    let t = c .before .loop in
-    (omega arith, simp length-set (t .inv .1), λ j l. let other : j ≡ t .i → ⊥ = omega arith in getD-set-other (t .dst) (t .i) j 0 0 other ∙ t .inv .2 j l, zeroed-more (t .dst) (c .before .before .args .from) (t .i) (omega arith) (t .inv .3)))
+    let t = c .before .loop in (
+      omega arith,
+      simp length-set (t .inv .1),
+      λ j l. let other : j ≡ t .i → ⊥ = omega arith in getD-set-other (t .dst) (t .i) j 0 0 other
+          ∙ t .inv .2 j l,
+      zeroed-more (t .dst) (c .before .before .args .from) (t .i) (omega arith) (t .inv .3),
+    ))
     (λ c. search needs)
     (λ c. record { long = c .before .loop .inv .1; kept = c .before .loop .inv .2; zero = λ i k l. c .before .loop .inv .3 i k (omega arith) }))

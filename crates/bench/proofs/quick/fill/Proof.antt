@@ -22,15 +22,20 @@ module _ (o : tie.After-own-of) where
 pub fill-spec : {M : Type 1} → statement M
 fill-spec =
     tie.close (tie.spec (λ c κs. tt)
-    (λ c κs. let g = c .before .before .before .before in (g .pre .fit .sound .few, g .pre .fit .sound .filled, rw (c .bytes .ensures) (bytes-few (g .args .plan .lane))))
+    (λ c κs. let g = c .before .before .before .before in
+    (g .pre .fit .sound .few, g .pre .fit .sound .filled, rw (c .bytes .ensures) (bytes-few (g .args .plan .lane))))
     (λ c. rw (c .before .bytes .ensures) (fits-below {n = 2048} tt (small _ (g c .args .plan .lane) (g c .pre .fit .sound .filled))))
     (λ c κs. let o = c .before in (g o .pre, own o, o .before .bytes .ensures))
     (λ c. let o = c .before .before .before .before .before in fits-below {n = 256} tt (found-few (g o .pre) (own o) (o .before .bytes .ensures) .1))
     (λ c κs.
-    let o = c .before .before .before .before .before in
-    (found-few (g o .pre) (own o) (o .before .bytes .ensures) .0, le-trans (found-room (g o .pre) (own o) (o .before .bytes .ensures)) (le-of-eq (sym (c .before .before .dst .given)))))
+    let o = c .before .before .before .before .before in (
+      found-few (g o .pre) (own o) (o .before .bytes .ensures) .0,
+      le-trans (found-room (g o .pre) (own o) (o .before .bytes .ensures))
+          (le-of-eq (sym (c .before .before .dst .given))),
+    ))
     (λ c κs. tt) (λ c κs. tt) (λ c. search needs)
     (λ c.
     let o = c .before .before .before .before .before .before .before .before .before .before .before .before .before in
-    filled-out (g o .pre) (own o) (o .before .bytes .ensures) (c .before .before .before .before .before .before .before .before .before .before .before .own-lanes .ensures)
+    filled-out (g o .pre) (own o) (o .before .bytes .ensures)
+    (c .before .before .before .before .before .before .before .before .before .before .before .own-lanes .ensures)
     (c .before .before .before .before .before .before .before .blocks2 .ensures) (c .before .before .before .zeros .ensures) (c .counted .ensures)))

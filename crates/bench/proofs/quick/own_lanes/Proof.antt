@@ -22,15 +22,21 @@ own-lanes-spec =
     tie.close (tie.spec (λ c κs. tt) (λ c κs. tt)
     (λ c. search needs) (λ c. search needs)
     (λ c. always-room (g c .pre .0) (rule c))
-    (λ c κs. let t = c .before in (simp length-take (omega (arith, always-room (g t .pre .0) (rule t))), always-in (g t .pre .0) (rule t) (t .before .before .bytes .ensures)))
+    (λ c κs. let t = c .before in
+    (simp length-take (omega (arith, always-room (g t .pre .0) (rule t))), always-in (g t .pre .0) (rule t) (t .before .before .bytes .ensures)))
     (λ c. search needs)
-    (λ c. let t = c .before .before .before .before in always-out (g t .pre .0) (rule t) (t .before .before .bytes .ensures) (now (g t .args .dst)) refl (c .before .before .replicated .ensures))
+    (λ c. let t = c .before .before .before .before in always-out (g t .pre .0) (rule t) (t .before .before .bytes .ensures) (now (g t .args .dst)) refl
+    (c .before .before .replicated .ensures))
     (λ c κs. tt)
     (λ c κs.
     let g = c .before .before .before .before .before .before .before .before in
-    other-in (g .pre .0) (g .pre .1) (g .pre .2) (c .before .before .before .before .bytes .ensures) (c .before .stride-of .ensures ∙ rw (c .before .before .before .before .bytes .ensures)) (sym (c .before .before .before .always .ensures) ∙ c .before .before .if1 .left))
+    other-in (g .pre .0) (g .pre .1) (g .pre .2) (c .before .before .before .before .bytes .ensures)
+    (c .before .stride-of .ensures ∙ rw (c .before .before .before .before .bytes .ensures))
+    (sym (c .before .before .before .always .ensures) ∙ c .before .before .if1 .left))
     (λ c. search needs)
     (λ c.
     let g = c .before .before .before .before .before .before .before .before .before .before .before in
     let b = c .before .before .before .before .before .before .before .bytes .ensures in
-    other-out (g .pre .0) (g .pre .1) (g .pre .2) b (c .before .before .before .before .stride-of .ensures ∙ rw b) (sym (c .before .before .before .before .before .before .always .ensures) ∙ c .before .before .before .before .before .if1 .left) (c .before .before .sized .ensures)))
+    other-out (g .pre .0) (g .pre .1) (g .pre .2) b (c .before .before .before .before .stride-of .ensures ∙ rw b)
+    (sym (c .before .before .before .before .before .before .always .ensures) ∙ c .before .before .before .before .before .if1 .left)
+    (c .before .before .sized .ensures)))

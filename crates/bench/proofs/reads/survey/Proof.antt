@@ -31,10 +31,12 @@ survey-spec =
     (λ c.
     let t = c .before .before .before .before .before in
     ap reportOf (c .ended .ensures)
-    ∙ stopped (t .before .before .before .before .loop .inv) (t .before .before .if1 .taken) (sym (t .before .asks .ensures) ∙ t .if2 .taken) _ _ (sym (c .before .before .before .before .element .ensures) ∙ c .before .before .fault .given .1))
+    ∙ stopped (t .before .before .before .before .loop .inv) (t .before .before .if1 .taken) (sym (t .before .asks .ensures) ∙ t .if2 .taken) _ _
+    (sym (c .before .before .before .before .element .ensures) ∙ c .before .before .fault .given .1))
     (λ c. c .match .keys2)
     (λ c. search needs)
-    (λ c. next-fits (c .before .before .if1 .taken) (c .before .before .before .before .before .before .before .before .before .before .pre .few)) (λ c. less (c .before .before .if1 .taken))
+    (λ c. next-fits (c .before .before .if1 .taken) (c .before .before .before .before .before .before .before .before .before .before .pre .few))
+    (λ c. less (c .before .before .if1 .taken))
     (λ c.
     let s = c .before .before .before .before .loop .inv in
     let more = c .before .before .if1 .taken in

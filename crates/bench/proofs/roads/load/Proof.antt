@@ -39,7 +39,8 @@ load-spec =
     (λ c.
     let b = c .before .before .before .before .before .before .before .before in
     let together = c .before .before .before .before .before .before .find .ensures (c .before .before .before .before .before .if1 .taken) in
-    alike _ (g b .args .plan) _ _ (now (g b .args .dst)) (g b .pre .1 .sound .some) (answers _ _ _ _ together (g b .args .plan) refl (bytes b)) (c .before .before .before .fill .ensures) (c .ended .ensures))
+    alike _ (g b .args .plan) _ _ (now (g b .args .dst)) (g b .pre .1 .sound .some) (answers _ _ _ _ together (g b .args .plan) refl (bytes b))
+    (c .before .before .before .fill .ensures) (c .ended .ensures))
     (λ c κs. let b = c .before .before .before .before in (g b .pre .1 .sound, (g b .pre .1 .most, g b .pre .1 .whole)))
     (λ c. search needs)
     (λ c. c .before .before .one-by-one .ensures))

@@ -11,10 +11,23 @@ one-by-one-spec =
     tie.close (tie.spec (λ c κs. search needs) (λ c κs. tt)
     (λ c κs.
     let g = c .before .before .before .before .before .before .before .before .before .before in
-    let s = sym (c .before .before .before .survey .ensures) in
-    (g .pre .0, (g .pre .1, record { number = ap (λ (t : Report). t .number) s ∙ sym (c .before .before .number .ensures) ∙ c .before .if1 .taken; counted = ap (λ (t : Report). t .count) s })))
+    let s = sym (c .before .before .before .survey .ensures) in (
+      g .pre .0,
+      (
+        g .pre .1,
+        record {
+          number = ap (λ (t : Report). t .number) s ∙ sym (c .before .before .number .ensures)
+              ∙ c .before .if1 .taken;
+          counted = ap (λ (t : Report). t .count) s;
+        },
+      ),
+    ))
     (λ c. search needs)
     (λ c.
     let t = c .before .before .before .before in
-    record { report = t .before .before .survey .ensures; register = rw (eq-eqb _ _ (sym (t .before .number .ensures) ∙ t .if1 .taken)) (c .before .before .written .ensures) })
+    record {
+      report = t .before .before .survey .ensures;
+      register = rw (eq-eqb _ _ (sym (t .before .number .ensures) ∙ t .if1 .taken))
+          (c .before .before .written .ensures);
+    })
     (λ c. record { report = c .before .before .survey .ensures; register = rw (ne-eqb _ _ (λ e. c .if1 .left (c .before .number .ensures ∙ e))) }))

@@ -32,5 +32,6 @@ target-spec =
     (λ c. small c (le-add-right _ _)) (λ c. small c (le-refl _))
     (λ c. le-add-right _ _) (λ c. le-add-right _ _)
     (λ c. fits c)
-    (λ c κs. let t = c .before in (G t .pre .0, rw (part-length (now (G t .args .z)) (at t) (G t .args .n) (fits t)) (G t .pre .1 .0))) (λ c. c .before .z .given .1)
+    (λ c κs. let t = c .before in (G t .pre .0, rw (part-length (now (G t .args .z)) (at t) (G t .args .n) (fits t)) (G t .pre .1 .0)))
+    (λ c. c .before .z .given .1)
     (λ c. let t = c .before .before .before .before in targeted _ _ _ (now (G t .args .z)) (G t .args .n) (fits t) (c .before .before .load .ensures)))
