@@ -106,7 +106,8 @@ fn chunks(
     width: usize,
 ) -> u64
     requires { ⌜ (LanesIn (now stretch) 0 stride (own * (8 / width)) size width (length (now dst))) × (own ≤ 32) × (own ≤ length (now bits)) ⌝ }
-    ensures { λ r. ⌜ LanesOut (now (stretch .entry)) 0 (now (bits .entry)) stride signed size width (length (now (dst .entry))) (now (dst .exit)) r (own * (8 / width)) ⌝ }
+    ensures { λ r. ⌜ LanesOut (now (stretch .entry)) 0 (now (bits .entry)) stride signed size width
+        (length (now (dst .entry))) (now (dst .exit)) r (own * (8 / width)) ⌝ }
 {
     let chunk_stride = 8 / width * stride;
     let mut lanes_on: u64 = 0;
@@ -142,7 +143,8 @@ pub(crate) fn sized(
     width: usize,
 ) -> u64
     requires { ⌜ (LanesIn (now stretch) 0 stride (own * (8 / width)) size width (length (now dst))) × (own ≤ 32) × (own ≤ length (now bits)) ⌝ }
-    ensures { λ r. ⌜ LanesOut (now (stretch .entry)) 0 (now (bits .entry)) stride signed size width (length (now (dst .entry))) (now (dst .exit)) r (own * (8 / width)) ⌝ }
+    ensures { λ r. ⌜ LanesOut (now (stretch .entry)) 0 (now (bits .entry)) stride signed size width
+        (length (now (dst .entry))) (now (dst .exit)) r (own * (8 / width)) ⌝ }
 {
     match one_if(signed) as usize * 0x100 + width * 0x10 + size {
         0x011 => chunks(dst, stretch, bits, stride, own, false, 1, 1),

@@ -50,7 +50,8 @@ fn value(
     e: u64,
 ) -> u64
     requires { ⌜ e ≤ 256 ⌝ }
-    ensures { λ r. ⌜ r ≡ valueOf (answersIn (areasOf map (now (flash .entry)) (now («flash_rights» .entry)) (now (ram .entry)) (now («ram_rights» .entry))) plan e) ⌝ }
+    ensures { λ r. ⌜ r ≡ valueOf
+        (answersIn (areasOf map (now (flash .entry)) (now («flash_rights» .entry)) (now (ram .entry)) (now («ram_rights» .entry))) plan e) ⌝ }
 {
     match reads::element(map, flash, flash_rights, ram, ram_rights, plan, e) {
         Reading::Value(v) => v,
@@ -71,7 +72,9 @@ fn lane_value(
 ) -> u64
     requires { ⌜ Sound plan ⌝ }
     requires { ⌜ l ≤ 256 ⌝ }
-    ensures { λ r. ⌜ r ≡ wrap (laneValue (answersIn (areasOf map (now (flash .entry)) (now («flash_rights» .entry)) (now (ram .entry)) (now («ram_rights» .entry))) plan) plan (now (pred .entry)) l) ⌝ }
+    ensures { λ r. ⌜ r ≡ wrap (laneValue
+        (answersIn (areasOf map (now (flash .entry)) (now («flash_rights» .entry)) (now (ram .entry)) (now («ram_rights» .entry))) plan)
+        plan (now (pred .entry)) l) ⌝ }
 {
     if actives::takes_element(plan, pred, l) {
         let v = value(
@@ -103,7 +106,9 @@ pub(crate) fn fill(
 )
     requires { ⌜ Sound plan ⌝ }
     requires { ⌜ (length (now dst) ≤ 256) × (length (now dst) % 8 ≡ 0) ⌝ }
-    ensures { λ _. ⌜ now (dst .exit) ≡ registerOf (answersIn (areasOf map (now (flash .entry)) (now («flash_rights» .entry)) (now (ram .entry)) (now («ram_rights» .entry))) plan) plan (now (pred .entry)) (length (now (dst .entry))) ⌝ }
+    ensures { λ _. ⌜ now (dst .exit) ≡ registerOf
+        (answersIn (areasOf map (now (flash .entry)) (now («flash_rights» .entry)) (now (ram .entry)) (now («ram_rights» .entry))) plan)
+        plan (now (pred .entry)) (length (now (dst .entry))) ⌝ }
 {
     let lane = plan.lane;
     let width = lane.bytes() as usize;

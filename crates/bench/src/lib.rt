@@ -4,6 +4,7 @@ mod chunks;
 mod fills;
 mod quick;
 mod reads;
+mod results;
 mod roads;
 mod stretches;
 
@@ -13,6 +14,7 @@ use loads::Planned;
 use loads::Settings;
 use loads::StepResult;
 use memory::Map;
+use results::ended;
 ghost use mathlib.Core.Path.{_≡_};
 ghost use mathlib.Core.Bool.{true};
 ghost use Prim.Native.Nat.{_/_};
@@ -20,16 +22,8 @@ ghost use Rattle.loads.specs.Benches.{areFilesAccepted, accepted};
 ghost use Rattle.loads.specs.Sounds.{Sound};
 ghost use Rattle.loads.specs.Steps.{prepared, StepPromise};
 ghost use Rattle.plans.specs.Shapes.{Shaped};
-ghost use Rattle.loads.specs.declared.StepResult.{StepResult};
 ghost use Rattle.bench.specs.Lends.{lentOf, benchOf};
 ghost use Rattle.bench.specs.Inside.{stacked, EndsAs};
-
-// How a step ends: so many elements read, and the answer.
-fn ended(count: u64, answer: Answer) -> StepResult
-    ensures { λ r. ⌜ _≡_ {A = StepResult} r (record { count = count; answer = answer }) ⌝ }
-{
-    StepResult { count, answer }
-}
 
 // Whether the vector length is allowed, and files of z bytes, p bytes and x numbers are as long as it asks.
 fn files_accepted(vl: u64, z: usize, p: usize, x: usize) -> bool
@@ -59,7 +53,9 @@ fn carry<'a>(
 ) -> StepResult
     requires { ⌜ accepted (lentOf settings (now p) map (now flash) (now «flash_rights») (now «ram_rights»)) (benchOf (now z) (now x) (now ram)) ≡ true ⌝ }
     requires { ⌜ (Sound plan) × Shaped plan (settings .vl / 8) ⌝ }
-    ensures { λ r. ⌜ EndsAs (stacked plan) (lentOf settings (now (p .entry)) map (now (flash .entry)) (now («flash_rights» .entry)) (now («ram_rights» .entry))) (benchOf (now (z .entry)) (now (x .entry)) (now (ram .entry))) r (benchOf (now (z .exit)) (now (x .exit)) (now (ram .entry))) ⌝ }
+    ensures { λ r. ⌜ EndsAs (stacked plan)
+        (lentOf settings (now (p .entry)) map (now (flash .entry)) (now («flash_rights» .entry)) (now («ram_rights» .entry)))
+        (benchOf (now (z .entry)) (now (x .entry)) (now (ram .entry))) r (benchOf (now (z .exit)) (now (x .exit)) (now (ram .entry))) ⌝ }
 {
     let k = (settings.vl / 64) as usize;
     let pred = actives::governing(p, k, plan);
@@ -90,7 +86,9 @@ fn accepted_step<'a>(
     ram_rights: &[u8],
 ) -> StepResult
     requires { ⌜ accepted (lentOf settings (now p) map (now flash) (now «flash_rights») (now «ram_rights»)) (benchOf (now z) (now x) (now ram)) ≡ true ⌝ }
-    ensures { λ r. ⌜ EndsAs (λ l b. prepared l (b .scalars) word) (lentOf settings (now (p .entry)) map (now (flash .entry)) (now («flash_rights» .entry)) (now («ram_rights» .entry))) (benchOf (now (z .entry)) (now (x .entry)) (now (ram .entry))) r (benchOf (now (z .exit)) (now (x .exit)) (now (ram .entry))) ⌝ }
+    ensures { λ r. ⌜ EndsAs (λ l b. prepared l (b .scalars) word)
+        (lentOf settings (now (p .entry)) map (now (flash .entry)) (now («flash_rights» .entry)) (now («ram_rights» .entry)))
+        (benchOf (now (z .entry)) (now (x .entry)) (now (ram .entry))) r (benchOf (now (z .exit)) (now (x .exit)) (now (ram .entry))) ⌝ }
 {
     match plans::prepare(settings, x, word) {
         Planned::Stop(answer) => ended(0, answer),
@@ -124,7 +122,8 @@ pub fn step<'a>(
     flash_rights: &[u8],
     ram_rights: &[u8],
 ) -> StepResult
-    ensures { λ r. ⌜ (let l = lentOf settings (now (p .entry)) map (now (flash .entry)) (now («flash_rights» .entry)) (now («ram_rights» .entry)) in StepPromise l word (benchOf (now (z .entry)) (now (x .entry)) (now (ram .entry))) r l (benchOf (now (z .exit)) (now (x .exit)) (now (ram .entry)))) ⌝ }
+    ensures { λ r. ⌜ (let l = lentOf settings (now (p .entry)) map (now (flash .entry)) (now («flash_rights» .entry)) (now («ram_rights» .entry)) in
+        StepPromise l word (benchOf (now (z .entry)) (now (x .entry)) (now (ram .entry))) r l (benchOf (now (z .exit)) (now (x .exit)) (now (ram .entry)))) ⌝ }
 {
     if files_accepted(settings.vl, z.len(), p.len(), x.len()) {
         if memory::taken(map, flash, flash_rights, ram, ram_rights) {

@@ -1,6 +1,6 @@
 // What memory says of the elements that a load asks for.
 use crate::actives;
-use crate::ended;
+use crate::results::ended;
 use loads::Answer;
 use loads::Plan;
 use loads::StepResult;
@@ -54,7 +54,9 @@ pub(crate) fn survey(
     plan: Plan,
 ) -> StepResult
     requires { ⌜ Sound plan ⌝ }
-    ensures { λ r. ⌜ reportOf r ≡ surveyOf (answersIn (areasOf map (now (flash .entry)) (now («flash_rights» .entry)) (now (ram .entry)) (now («ram_rights» .entry))) plan) plan (now (pred .entry)) ⌝ }
+    ensures { λ r. ⌜ reportOf r ≡ surveyOf
+        (answersIn (areasOf map (now (flash .entry)) (now («flash_rights» .entry)) (now (ram .entry)) (now («ram_rights» .entry))) plan)
+        plan (now (pred .entry)) ⌝ }
 {
     let mut count: u64 = 0;
     let mut e: u64 = 0;

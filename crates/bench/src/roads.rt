@@ -1,9 +1,9 @@
 // The two roads of a load past the stack rule: where all its elements lie together its destination is filled from that stretch, and else
 // it goes one by one through the elements that it asks for.
-use crate::ended;
 use crate::fills;
 use crate::quick;
 use crate::reads;
+use crate::results::ended;
 use crate::stretches;
 use loads::Answer;
 use loads::Plan;
@@ -34,7 +34,9 @@ fn written(
     requires { ⌜ Sound plan ⌝ }
     requires { ⌜ (length (now dst) ≤ 256) × (length (now dst) % 8 ≡ 0) ⌝ }
     requires { ⌜ RanWith (surveyOf (answersIn (areasOf map (now flash) (now «flash_rights») (now ram) (now «ram_rights»)) plan) plan (now pred)) count ⌝ }
-    ensures { λ _. ⌜ now (dst .exit) ≡ registerOf (answersIn (areasOf map (now (flash .entry)) (now («flash_rights» .entry)) (now (ram .entry)) (now («ram_rights» .entry))) plan) plan (now (pred .entry)) (length (now (dst .entry))) ⌝ }
+    ensures { λ _. ⌜ now (dst .exit) ≡ registerOf
+        (answersIn (areasOf map (now (flash .entry)) (now («flash_rights» .entry)) (now (ram .entry)) (now («ram_rights» .entry))) plan)
+        plan (now (pred .entry)) (length (now (dst .entry))) ⌝ }
 {
     if count == 0 {
         fills::zeros(dst, 0)
@@ -56,7 +58,9 @@ fn one_by_one(
 ) -> StepResult
     requires { ⌜ Sound plan ⌝ }
     requires { ⌜ (length (now dst) ≤ 256) × (length (now dst) % 8 ≡ 0) ⌝ }
-    ensures { λ r. ⌜ Loaded (answersIn (areasOf map (now (flash .entry)) (now («flash_rights» .entry)) (now (ram .entry)) (now («ram_rights» .entry))) plan) plan (now (pred .entry)) (now (dst .entry)) r (now (dst .exit)) ⌝ }
+    ensures { λ r. ⌜ Loaded
+        (answersIn (areasOf map (now (flash .entry)) (now («flash_rights» .entry)) (now (ram .entry)) (now («ram_rights» .entry))) plan)
+        plan (now (pred .entry)) (now (dst .entry)) r (now (dst .exit)) ⌝ }
 {
     let found = reads::survey(map, flash, flash_rights, ram, ram_rights, pred, plan);
     let answer = found.answer;
@@ -90,7 +94,9 @@ fn load<'a>(
 ) -> StepResult
     requires { ⌜ Taken (areasOf map (now flash) (now «flash_rights») (now ram) (now «ram_rights»)) ⌝ }
     requires { ⌜ Fit plan (now pred) (length (now dst)) ⌝ }
-    ensures { λ r. ⌜ Loaded (answersIn (areasOf map (now (flash .entry)) (now («flash_rights» .entry)) (now (ram .entry)) (now («ram_rights» .entry))) plan) plan (now (pred .entry)) (now (dst .entry)) r (now (dst .exit)) ⌝ }
+    ensures { λ r. ⌜ Loaded
+        (answersIn (areasOf map (now (flash .entry)) (now («flash_rights» .entry)) (now (ram .entry)) (now («ram_rights» .entry))) plan)
+        plan (now (pred .entry)) (now (dst .entry)) r (now (dst .exit)) ⌝ }
 {
     let size = plan.size;
     let all_bytes = (plan.elements * size.bytes()) as usize;
@@ -125,7 +131,9 @@ pub(crate) fn target<'a>(
     requires { ⌜ Taken (areasOf map (now flash) (now «flash_rights») (now ram) (now «ram_rights»)) ⌝ }
     requires { ⌜ Fit plan (now pred) n ⌝ }
     requires { ⌜ length (now z) ≡ 32 * n ⌝ }
-    ensures { λ r. ⌜ Targeted (answersIn (areasOf map (now (flash .entry)) (now («flash_rights» .entry)) (now (ram .entry)) (now («ram_rights» .entry))) plan) plan (now (pred .entry)) n (now (z .entry)) r (now (z .exit)) ⌝ }
+    ensures { λ r. ⌜ Targeted
+        (answersIn (areasOf map (now (flash .entry)) (now («flash_rights» .entry)) (now (ram .entry)) (now («ram_rights» .entry))) plan)
+        plan (now (pred .entry)) n (now (z .entry)) r (now (z .exit)) ⌝ }
 {
     let at = plan.target as usize * n;
     let end = at + n;

@@ -42,7 +42,9 @@ pub(crate) fn find<'a>(
 ) -> &'a [u8]
     requires { ⌜ Taken (areasOf map (now flash) (now «flash_rights») (now ram) (now «ram_rights»)) ⌝ }
     requires { ⌜ (0 < n) × (n ≤ 4096) ⌝ }
-    ensures { λ s. ⌜ (length (s .now) ≡ n → Together (areasOf map (now (flash .entry)) (now («flash_rights» .entry)) (now (ram .entry)) (now («ram_rights» .entry))) (a .0) n (s .now)) ⌝ }
+    ensures { λ s. ⌜ (length (s .now) ≡ n → Together
+        (areasOf map (now (flash .entry)) (now («flash_rights» .entry)) (now (ram .entry)) (now («ram_rights» .entry)))
+        (a .0) n (s .now)) ⌝ }
 {
     let stretch = in_area(map.flash, flash, flash_rights, a, n);
     if stretch.len() == n {

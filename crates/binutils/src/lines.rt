@@ -1,5 +1,5 @@
 // One line of the input: a word in eight hexadecimal digits, a space, and what binutils prints for the word.
-use crate::texts::part;
+use crate::search::part;
 
 // The word of a line, or that the line is not in this form.
 pub enum Line {

@@ -2,15 +2,15 @@
 // text, made from the decoded fields, is binutils' text; where it is none of ours, binutils' text is none of them either.
 mod lines;
 mod printed;
-mod texts;
+mod search;
 
 use libc::STDERR_FILENO;
 use libc::STDIN_FILENO;
 use libc::STDOUT_FILENO;
 use lines::Line;
+use search::find;
+use search::part;
 use texts::Text;
-use texts::find;
-use texts::part;
 use words::Back;
 use words::Decoded;
 use words::Insn;
@@ -65,7 +65,7 @@ fn row(decoded: Decoded) -> usize {
 }
 
 // What a word is, as a text.
-fn told(decoded: Decoded) -> Text {
+fn as_text(decoded: Decoded) -> Text {
     match decoded {
         Decoded::Outside => Text::of(b"outside"),
         Decoded::Undefined => Text::of(b"undefined"),
@@ -86,12 +86,13 @@ fn agrees(decoded: Decoded, text: &[u8]) -> bool {
 
 // Writes a disagreement: the line, which has the word and binutils' text, and what the word is to us.
 fn disagreement(number: u64, line: &[u8], ours: Text) {
+    let bytes = ours.bytes;
     io::write_all(STDOUT_FILENO, b"line ");
     io::print_decimal(STDOUT_FILENO, number);
     io::write_all(STDOUT_FILENO, b": ");
     io::write_all(STDOUT_FILENO, line);
     io::write_all(STDOUT_FILENO, b" | ours: ");
-    ours.write();
+    io::write_all(STDOUT_FILENO, part(&bytes, 0, ours.n));
     io::write_all(STDOUT_FILENO, b"\n");
 }
 
@@ -112,7 +113,7 @@ fn compared(run: Run, word: u32, line: &[u8]) -> Run {
     let decoded = words::read(word);
     let same = agrees(decoded, part(line, lines::TEXT, line.len()));
     if !same {
-        disagreement(run.line, line, told(decoded));
+        disagreement(run.line, line, as_text(decoded));
     }
     let words = run.words;
     let agree = run.agree;
@@ -138,8 +139,8 @@ fn refused(run: Run, why: &[u8]) -> Run {
     end
 }
 
-// Takes the first line of these bytes.
-fn taken(run: Run, bytes: &[u8]) -> Run {
+// Compares the first line of these bytes.
+fn first_line(run: Run, bytes: &[u8]) -> Run {
     let end = find(bytes, b"\n");
     if end == bytes.len() {
         return refused(run, b" has no end within 128 bytes\n");
@@ -168,7 +169,7 @@ fn turn(run: Run) -> Run {
         return end;
     }
     let n = io::count(got, &buf);
-    taken(run, &buf[..n])
+    first_line(run, &buf[..n])
 }
 
 // Reads to the end. A loop has to end, and nothing says that a file does, so the turns are counted down from a number that no run uses up.

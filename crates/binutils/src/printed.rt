@@ -1,10 +1,10 @@
 // How binutils prints the listed loads. The text of a load is made from its fields alone: its word is not in sight here.
-use crate::texts::Text;
-use crate::texts::find;
-use crate::texts::has;
-use crate::texts::has_at;
-use crate::texts::part;
+use crate::search::find;
+use crate::search::has;
+use crate::search::has_at;
+use crate::search::part;
 use ground::Size;
+use texts::Text;
 use words::Back;
 use words::Governing;
 use words::Insn;
@@ -38,12 +38,12 @@ fn letter(k: u32, four: u8) -> u8 {
 // logarithm, and S whether the element is signed.
 fn piece(t: Text, capital: u8, v: u32) -> Text {
     match capital {
-        b'N' => t.number(v),
+        b'N' => t.number(v as u64),
         b'B' => {
             if v == 31 {
                 return t.and(b"sp");
             }
-            t.and(b"x").number(v)
+            t.and(b"x").number(v as u64)
         }
         b'E' => t.and(&[letter(v, b'w')]),
         b'L' => t.and(&[letter(v, b's')]),

@@ -1,34 +1,26 @@
 -- A case's parts, as they are lent to a step.
 use mathlib.Core.Path.{_≡_}
-use mathlib.Core.List.{List, [], _++_, append-nil}
-use Prim.Native.Nat.{ℕ, _+_, _-_, _≤_}
-use native.Mathlib.Omega.{arith}
-use lib.ListN.{length, take, drop}
-use lib.Seq.{take-length, drop-length}
-use Rattle.ground.proofs.Fills.{part-length}
+use mathlib.Core.List.{List}
+use Prim.Native.Nat.{ℕ, _+_, _-_}
+use native.Mathlib.Nat.{add-sub-cancel-left}
+use lib.ListN.{take, drop}
 use Rattle.loads.specs.Steps.{StepPromise}
 use Rattle.loads.specs.declared.StepResult.{StepResult}
 use Rattle.bench.specs.Lends.{lentOf, benchOf}
-use Rattle.cases.specs.Parts.{part, pAt, flashAt, flashRightsAt, ramAt, ramRightsAt, scalarsIn, lentIn, benchIn}
-use Rattle.cases.specs.declared.Case.{Case}
+use Rattle.cases.specs.Parts.{part, predicatesAt, flashAt, flashRightsAt, ramAt, ramRightsAt, scalarsIn, lentIn, benchIn}
+use Rattle.cases.specs.declared.heads.Case.{Case}
 
 -- a part of a slice, from a place to n bytes on
 pub cut : (s : List ℕ) (at n : ℕ) → take (at + n - at) (drop at s) ≡ part s at n
-cut s at n = let size : at + n - at ≡ n = omega arith in rw size
-
--- .. copied over as many bytes
-pub copied : (s z : List ℕ) (at n : ℕ) → length z ≡ n → at + n ≤ length s
-    → take (length (take (at + n - at) (drop at s))) (take (at + n - at) (drop at s)) ++ drop (length (take (at + n - at) (drop at s))) z ≡ part s at n
-copied s z at n size fits =
-    let none : drop (length (take (at + n - at) (drop at s))) z ≡ [] = rw (part-length s at n fits, ← size) (drop-length z) in
-    rw (none, take-length (take (at + n - at) (drop at s)), append-nil) (cut s at n)
+cut s at n = rw add-sub-cancel-left
 
 -- a step of the parts is a step of what the case lends
 pub as-lent : (s : List ℕ) (c : Case) {vectors scalars ram predicates flash flashRights ramRights : List ℕ}
-    → vectors ≡ part s 96 (c .z) → scalars ≡ scalarsIn s c → ram ≡ part s (ramAt c) (c .ram) → predicates ≡ part s (pAt c) (c .p)
+    → vectors ≡ part s 96 (c .vectors) → scalars ≡ scalarsIn s c → ram ≡ part s (ramAt c) (c .ram) → predicates ≡ part s (predicatesAt c) (c .predicates)
     → flash ≡ part s (flashAt c) (c .flash) → flashRights ≡ part s (flashRightsAt c) (c .«flash_rights») → ramRights ≡ part s (ramRightsAt c) (c .«ram_rights»)
     → (r : StepResult) {z x : List ℕ}
-    → (let l = lentOf (c .settings) predicates (c .map) flash flashRights ramRights in StepPromise l (c .word) (benchOf vectors scalars ram) r l (benchOf z x ram))
+    → (let l = lentOf (c .settings) predicates (c .map) flash flashRights ramRights in
+    StepPromise l (c .word) (benchOf vectors scalars ram) r l (benchOf z x ram))
     → (let l = lentIn s c in StepPromise l (c .word) (benchIn s c) r l (benchOf z x (part s (ramAt c) (c .ram))))
 unfolding lentIn benchIn
 as-lent s c e₁ e₂ e₃ e₄ e₅ e₆ e₇ r h = rw (e₁, e₂, e₃, e₄, e₅, e₆, e₇) at h

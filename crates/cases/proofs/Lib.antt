@@ -1,4 +1,4 @@
 -- The laws of the byte format.
 pub mod Lends
-pub mod Heads
+pub mod Limits
 pub mod Unique

@@ -5,10 +5,10 @@ use Prim.Native.Nat.{ℕ}
 use Rattle.ground.proofs.Laws.{only-one}
 use Rattle.cases.specs.Heads.{openedOf}
 use Rattle.cases.specs.Answers.{After, AnswerPromise}
-use Rattle.cases.specs.declared.Opened.{Opened}
+use Rattle.cases.specs.declared.heads.Opened.{Opened}
 
 pub head-unique : (s : List ℕ) (a b : Opened) → a ≡ openedOf s → b ≡ openedOf s → a ≡ b
 head-unique s a b p q = only-one p q
 
-pub answer-unique : (s out : List ℕ) (a b : After) → AnswerPromise s out (a .told) (a .out) → AnswerPromise s out (b .told) (b .out) → a ≡ b
+pub answer-unique : (s out : List ℕ) (a b : After) → AnswerPromise s out (a .answer) (a .out) → AnswerPromise s out (b .answer) (b .out) → a ≡ b
 answer-unique s out a b p q = only-one p q

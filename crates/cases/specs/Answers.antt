@@ -9,15 +9,15 @@ use Rattle.loads.specs.Steps.{stepOf}
 use Rattle.cases.specs.Heads.{openedOf}
 use Rattle.cases.specs.Parts.{lentIn, benchIn, caseBytes}
 use Rattle.cases.specs.Outcomes.{outcomeBytes, outcomeLength}
-use Rattle.cases.specs.declared.Case.{Case}
-use Rattle.cases.specs.declared.Refusal.the-variants.{Ends, Room}
-use Rattle.cases.specs.declared.Opened.{Opened}
-use Rattle.cases.specs.declared.Opened.the-variants.{Holds, Broken}
+use Rattle.cases.specs.declared.heads.Case.{Case}
+use Rattle.cases.specs.declared.heads.Refusal.the-variants.{Ends, Room}
+use Rattle.cases.specs.declared.heads.Opened.{Opened}
+use Rattle.cases.specs.declared.heads.Opened.the-variants.{Holds, Broken}
 use Rattle.cases.specs.declared.Answered.{Answered}
 use Rattle.cases.specs.declared.Answered.the-variants.{Written, Not}
 
 pub record After : Type 0 where
-  pub told : Answered
+  pub answer : Answered
   pub out : List ℕ
 
 -- the outcome of a step of what the case lends, over the first bytes of what is lent for it
@@ -27,12 +27,12 @@ outcomeIn s c out = outcomeBytes (stepOf (lentIn s c) (c .word) (benchIn s c)) +
 -- "A stream that ends inside a case": nothing is written for it. Nor is it where the outcome has no room.
 unfoldable pub onCase : List ℕ → List ℕ → Case → After
 onCase s out c =
-    if ltb (length s) (caseBytes c) then record { told = Not Ends; out = out }
-    else if ltb (length out) (outcomeLength c) then record { told = Not Room; out = out }
-    else record { told = Written (caseBytes c) (outcomeLength c); out = outcomeIn s c out }
+    if ltb (length s) (caseBytes c) then record { answer = Not Ends; out = out }
+    else if ltb (length out) (outcomeLength c) then record { answer = Not Room; out = out }
+    else record { answer = Written (caseBytes c) (outcomeLength c); out = outcomeIn s c out }
 
 abbrev pub onOpened : List ℕ → List ℕ → Opened → After
-onOpened s out (Broken why) = record { told = Not why; out = out }
+onOpened s out (Broken why) = record { answer = Not why; out = out }
 onOpened s out (Holds c n) = onCase s out c
 
 unfoldable pub answered : List ℕ → List ℕ → After
@@ -40,4 +40,4 @@ answered s out = onOpened s out (openedOf s)
 
 -- what `answer` promises of its result and of what it leaves
 abbrev pub AnswerPromise : List ℕ → List ℕ → Answered → List ℕ → Type 0
-AnswerPromise s out r out′ = _≡_ {A = After} (record { told = r; out = out′ }) (answered s out)
+AnswerPromise s out r out′ = _≡_ {A = After} (record { answer = r; out = out′ }) (answered s out)

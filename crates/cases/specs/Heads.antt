@@ -7,11 +7,11 @@ use lib.ListN.{length}
 use Rattle.ground.specs.Choices.{_⇒_, firstOf}
 use Rattle.ground.specs.Lists.{bytesAt}
 use Rattle.cases.specs.Parts.{caseBytes}
-use Rattle.cases.specs.declared.Case.{Case}
-use Rattle.cases.specs.declared.Part.the-variants as Part
-use Rattle.cases.specs.declared.Refusal.the-variants.{Ends, Magic, Flags, Level, Long}
-use Rattle.cases.specs.declared.Opened.{Opened}
-use Rattle.cases.specs.declared.Opened.the-variants.{Holds, Broken}
+use Rattle.cases.specs.declared.heads.Case.{Case}
+use Rattle.cases.specs.declared.heads.Part.the-variants as Part
+use Rattle.cases.specs.declared.heads.Refusal.the-variants.{Ends, Magic, Flags, Level, Long}
+use Rattle.cases.specs.declared.heads.Opened.{Opened}
+use Rattle.cases.specs.declared.heads.Opened.the-variants.{Holds, Broken}
 
 -- bit k of the flags: "bit 0 SIMD on, bit 1 SVE on, bit 2 F64MM present"
 abbrev pub flag : List ℕ → ℕ → Bool
@@ -24,9 +24,9 @@ headOf s =
       word = bytesAt s 4 4;
       settings = record { vl = bytesAt s 16 8; simd = flag s 0; sve = flag s 1; f64mm = flag s 2 };
       map = record { flash = record { 0 = bytesAt s 24 8 }; ram = record { 0 = bytesAt s 32 8 } };
-      z = bytesAt s 40 8;
-      p = bytesAt s 48 8;
-      x = bytesAt s 56 8;
+      vectors = bytesAt s 40 8;
+      predicates = bytesAt s 48 8;
+      scalars = bytesAt s 56 8;
       flash = bytesAt s 64 8;
       «flash_rights» = bytesAt s 72 8;
       ram = bytesAt s 80 8;
@@ -37,9 +37,9 @@ headOf s =
 unfoldable pub limited : Case → Opened
 limited c =
     firstOf
-    ((ltb 65536 (c .z) ⇒ Broken (Long Part.Z))
-    ∷ (ltb 4096 (c .p) ⇒ Broken (Long Part.P))
-    ∷ (ltb 128 (c .x) ⇒ Broken (Long Part.X))
+    ((ltb 65536 (c .vectors) ⇒ Broken (Long Part.Vectors))
+    ∷ (ltb 4096 (c .predicates) ⇒ Broken (Long Part.Predicates))
+    ∷ (ltb 128 (c .scalars) ⇒ Broken (Long Part.Scalars))
     ∷ (ltb 131072 (c .flash) ⇒ Broken (Long Part.Flash))
     ∷ (ltb 64 (c .«flash_rights») ⇒ Broken (Long Part.FlashRights))
     ∷ (ltb 131072 (c .ram) ⇒ Broken (Long Part.Ram))

@@ -3,10 +3,10 @@
 use Prim.Native.Nat.{_≤_}
 use mathlib.Core.Path.{_≡_}
 use Rattle.cases.specs.Parts.{caseBytes}
-use Rattle.cases.specs.declared.Opened.{Opened}
-use Rattle.cases.specs.declared.Opened.the-variants.{Holds, Broken}
+use Rattle.cases.specs.declared.heads.Opened.{Opened}
+use Rattle.cases.specs.declared.heads.Opened.the-variants.{Holds, Broken}
 
--- its length, and two bounds, so that no sum of theirs wraps
-abbrev pub Fine : Opened → Type 0
-Fine (Broken why) = Unit {0}
-Fine (Holds c n) = (n ≡ caseBytes c) × (c .z ≤ 65536) × (c .x ≤ 128)
+-- its length, and the limits of its vectors and scalars, so that no sum of theirs wraps
+abbrev pub WithinLimits : Opened → Type 0
+WithinLimits (Broken why) = Unit {0}
+WithinLimits (Holds c n) = (n ≡ caseBytes c) × (c .vectors ≤ 65536) × (c .scalars ≤ 128)

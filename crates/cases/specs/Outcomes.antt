@@ -5,7 +5,7 @@ use lib.ListN.{length, getD}
 use Rattle.ground.specs.Lists.{listed}
 use Rattle.loads.specs.Answers.{Report}
 use Rattle.loads.specs.Outcomes.{Outcome}
-use Rattle.cases.specs.declared.Case.{Case}
+use Rattle.cases.specs.declared.heads.Case.{Case}
 
 -- numbers of 8 bytes one after the other: byte i is byte i mod 8 of number i div 8
 abbrev pub eighth : List ℕ → ℕ → ℕ
@@ -24,4 +24,4 @@ outcomeBytes o = reportBytes (o .report) ++ (o .bench .vectors ++ eights (o .ben
 
 -- how many these are
 abbrev pub outcomeLength : Case → ℕ
-outcomeLength c = 25 + c .z + 8 * c .x
+outcomeLength c = 25 + c .vectors + 8 * c .scalars

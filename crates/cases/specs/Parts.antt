@@ -5,7 +5,7 @@ use lib.ListN.{take, drop}
 use Rattle.ground.specs.Lists.{listed, bytesAt}
 use Rattle.loads.specs.Benches.{Lent, Bench}
 use Rattle.bench.specs.Lends.{lentOf, benchOf}
-use Rattle.cases.specs.declared.Case.{Case}
+use Rattle.cases.specs.declared.heads.Case.{Case}
 
 -- n bytes from a place on
 abbrev pub part : List ℕ → ℕ → ℕ → List ℕ
@@ -13,17 +13,17 @@ part s at n = take n (drop at s)
 
 -- z, p, x, flash, flash_rights, ram, ram_rights: each begins where the one before it ends
 module _ (c : Case) where
-  abbrev pub zAt : ℕ
-  zAt = 96
+  abbrev pub vectorsAt : ℕ
+  vectorsAt = 96
 
-  abbrev pub pAt : ℕ
-  pAt = zAt + c .z
+  abbrev pub predicatesAt : ℕ
+  predicatesAt = vectorsAt + c .vectors
 
-  abbrev pub xAt : ℕ
-  xAt = pAt + c .p
+  abbrev pub scalarsAt : ℕ
+  scalarsAt = predicatesAt + c .predicates
 
   abbrev pub flashAt : ℕ
-  flashAt = xAt + 8 * c .x
+  flashAt = scalarsAt + 8 * c .scalars
 
   abbrev pub flashRightsAt : ℕ
   flashRightsAt = flashAt + c .flash
@@ -42,10 +42,11 @@ module _ (c : Case) where
 module _ (s : List ℕ) (c : Case) where
   unfoldable pub lentIn : Lent
   lentIn =
-      lentOf (c .settings) (part s (pAt c) (c .p)) (c .map) (part s (flashAt c) (c .flash)) (part s (flashRightsAt c) (c .«flash_rights»)) (part s (ramRightsAt c) (c .«ram_rights»))
+      lentOf (c .settings) (part s (predicatesAt c) (c .predicates)) (c .map) (part s (flashAt c) (c .flash))
+      (part s (flashRightsAt c) (c .«flash_rights»)) (part s (ramRightsAt c) (c .«ram_rights»))
 
   abbrev pub scalarsIn : List ℕ
-  scalarsIn = listed (λ i. bytesAt s (xAt c + 8 * i) 8) 0 (c .x)
+  scalarsIn = listed (λ i. bytesAt s (scalarsAt c + 8 * i) 8) 0 (c .scalars)
 
   unfoldable pub benchIn : Bench
-  benchIn = benchOf (part s (zAt c) (c .z)) scalarsIn (part s (ramAt c) (c .ram))
+  benchIn = benchOf (part s (vectorsAt c) (c .vectors)) scalarsIn (part s (ramAt c) (c .ram))

@@ -1,5 +1,5 @@
 // What lies behind a head: its parts lent to a step, and the outcome written.
-use crate::Case;
+use crate::heads::Case;
 use ground::number;
 use loads::StepResult;
 ghost use mathlib.Core.Path.{_≡_};
@@ -44,25 +44,27 @@ fn put_numbers(dst: &mut [u8], x: &[u64])
 
 // One step of the bench that a case lends. The vector file and the scalars are read into what is lent for them, and left there.
 fn stepped(z: &mut [u8], x: &mut [u64], s: &[u8], case: Case) -> StepResult
-    requires { ⌜ (length (now z) ≡ case .z) × (length (now x) ≡ case .x) × (caseBytes case ≤ length (now s)) ⌝ }
-    ensures { λ r. ⌜ (let l = lentIn (now (s .entry)) case in StepPromise l (case .word) (benchIn (now (s .entry)) case) r l (benchOf (now (z .exit)) (now (x .exit)) (part (now (s .entry)) (ramAt case) (case .ram)))) ⌝ }
+    requires { ⌜ (length (now z) ≡ case .vectors) × (length (now x) ≡ case .scalars) × (caseBytes case ≤ length (now s)) ⌝ }
+    ensures { λ r. ⌜ (let l = lentIn (now (s .entry)) case in
+        StepPromise l (case .word) (benchIn (now (s .entry)) case) r l
+        (benchOf (now (z .exit)) (now (x .exit)) (part (now (s .entry)) (ramAt case) (case .ram)))) ⌝ }
 {
-    let p_at = 96 + case.z;
-    let x_at = p_at + case.p;
-    let flash_at = x_at + 8 * case.x;
+    let predicates_at = 96 + case.vectors;
+    let scalars_at = predicates_at + case.predicates;
+    let flash_at = scalars_at + 8 * case.scalars;
     let flash_rights_at = flash_at + case.flash;
     let ram_at = flash_rights_at + case.flash_rights;
     let ram_rights_at = ram_at + case.ram;
     let end = ram_rights_at + case.ram_rights;
-    bytes::copy(&s[96..p_at], z);
-    numbers(x, s, x_at);
+    bytes::copy(&s[96..predicates_at], z);
+    numbers(x, s, scalars_at);
     bench::step(
         z,
         x,
         &s[ram_at..ram_rights_at],
         case.word,
         case.settings,
-        &s[p_at..x_at],
+        &s[predicates_at..scalars_at],
         case.map,
         &s[flash_at..flash_rights_at],
         &s[flash_rights_at..ram_at],
@@ -84,10 +86,10 @@ fn put_report(dst: &mut [u8], result: StepResult)
 // Answers a case: its outcome over the first bytes of what is lent for it. z is stepped where it lies in the outcome, so that
 // the vector file is moved once; the scalars are stepped in x.
 fn outcome(out: &mut [u8], x: &mut [u64], s: &[u8], case: Case)
-    requires { ⌜ (length (now x) ≡ case .x) × (outcomeLength case ≤ length (now out)) × (caseBytes case ≤ length (now s)) ⌝ }
+    requires { ⌜ (length (now x) ≡ case .scalars) × (outcomeLength case ≤ length (now out)) × (caseBytes case ≤ length (now s)) ⌝ }
     ensures { λ _. ⌜ now (out .exit) ≡ outcomeIn (now (s .entry)) case (now (out .entry)) ⌝ }
 {
-    let end = 25 + case.z;
+    let end = 25 + case.vectors;
     let last = end + 8 * x.len();
     let result = stepped(&mut out[25..end], x, s, case);
     put_numbers(&mut out[end..last], x);
@@ -103,10 +105,10 @@ fn scalars() -> [u64; 128]
 
 // Answers a case as `outcome` does, with room for its scalars.
 pub(crate) fn written(out: &mut [u8], s: &[u8], case: Case)
-    requires { ⌜ (case .x ≤ 128) × (outcomeLength case ≤ length (now out)) × (caseBytes case ≤ length (now s)) ⌝ }
+    requires { ⌜ (case .scalars ≤ 128) × (outcomeLength case ≤ length (now out)) × (caseBytes case ≤ length (now s)) ⌝ }
     ensures { λ _. ⌜ now (out .exit) ≡ outcomeIn (now (s .entry)) case (now (out .entry)) ⌝ }
 {
     let mut x = scalars();
-    let n = case.x;
+    let n = case.scalars;
     outcome(out, &mut x[..n], s, case);
 }

@@ -1,7 +1,7 @@
 -- A list that is filled from the front, by single elements or by parts that are lent on and come back.
 use Prim.Native.Nat.{ℕ, _+_, _-_, _*_, _/_, _%_, _^_, _≤_, _<_}
 use mathlib.Core.Path.{_≡_, refl, sym, _∙_, ap}
-use mathlib.Core.List.{List, [], _∷_, _++_, append-assoc}
+use mathlib.Core.List.{List, [], _∷_, _++_, append-assoc, append-nil}
 use mathlib.Core.Logic.{⊎-elim}
 use native.Mathlib.Nat.{zero-add, zero-mul, suc-mul, add-comm}
 use native.Mathlib.Numerals.{add-one}
@@ -10,7 +10,7 @@ use borrow.Author.Count.{below-more}
 use borrow.Author.Tests.{ltb-true, ltb-false}
 use lib.Dec.{ltb}
 use lib.ListN.{length, getD, set, take, drop, length-append, length-take, length-drop}
-use lib.Seq.{ext-getD, getD-set-same, getD-set-other, drop-drop, take-take, take-append-le, drop-append-add, take-at, drop-at}
+use lib.Seq.{ext-getD, getD-set-same, getD-set-other, drop-drop, take-take, take-append-le, drop-append-add, take-at, drop-at, take-length, drop-length}
 use Rattle.ground.specs.Lists.{listed, replaced}
 use Rattle.ground.proofs.Laws.{true-or-false, length-listed, getD-listed, length-replaced, replaced-below, replaced-in}
 
@@ -37,6 +37,10 @@ unfolding replaced
 back-in xs ys zs a n e =
     let k : a + (a + n - a) ≡ a + n = omega arith in
     rw (e, drop-drop, k)
+
+-- a list copied over one that is as long
+pub copied-over : (src dst : List ℕ) → length dst ≡ length src → take (length src) src ++ drop (length src) dst ≡ src
+copied-over src dst size = rw (take-length, ← size, drop-length, append-nil)
 
 -- two parts that touch, the upper one put in after the lower one, and before it
 module _ (xs : List ℕ) (a n m : ℕ) (ys zs : List ℕ) (fits : a + n ≤ length xs) where

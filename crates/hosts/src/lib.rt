@@ -49,7 +49,10 @@ pub extern "C" fn kjolvast_step<'a>(
     flash_rights: &[u8],
     ram_rights: &[u8],
 ) -> Told
-    ensures { λ r. ⌜ (let l = lentOf (settingsOf vl simd sve f64mm) (now (p .entry)) (mapOf «flash_start» «ram_start») (now (flash .entry)) (now («flash_rights» .entry)) (now («ram_rights» .entry)) in HostPromise l word (benchOf (now (z .entry)) (now (x .entry)) (now (ram .entry))) r l (benchOf (now (z .exit)) (now (x .exit)) (now (ram .entry)))) ⌝ }
+    ensures { λ r. ⌜ (let l = lentOf (settingsOf vl simd sve f64mm) (now (p .entry))
+        (mapOf «flash_start» «ram_start») (now (flash .entry)) (now («flash_rights» .entry)) (now («ram_rights» .entry)) in
+        HostPromise l word (benchOf (now (z .entry)) (now (x .entry)) (now (ram .entry)))
+        r l (benchOf (now (z .exit)) (now (x .exit)) (now (ram .entry)))) ⌝ }
 {
     let settings = Settings {
         vl,

@@ -1,11 +1,14 @@
 // Steps that other machines made and that were recorded: replayed here, and each outcome held to the recorded one. Standard input
 // is a file that has a case and its recorded outcome (docs/CASES.md), one such pair after the other.
-mod telling;
+mod tally;
 
 use cases::Answered;
 use cases::Refusal;
 use libc::STDIN_FILENO;
-use telling::Tally;
+use tally::Tally;
+
+// What a line on standard error begins with.
+const STEP: [u8; 11] = *b"qemu: step ";
 
 // What became of a recorded step: so many bytes of it, its answer, and whether the outcome here is the recorded one.
 enum Seen {
@@ -74,9 +77,9 @@ fn turn(so_far: Progress, stream: &mut [u8], out: &mut [u8]) -> Progress {
                 going: true,
             };
         }
-        Seen::Refused(why) => telling::refused(number, why),
-        Seen::NoOutcome => telling::say(number, b"the recorded outcome is cut short"),
-        Seen::Unread => telling::say(number, b"standard input is no file that can be read"),
+        Seen::Refused(why) => telling::refused(&STEP, number, why),
+        Seen::NoOutcome => telling::say(&STEP, number, b"the recorded outcome is cut short"),
+        Seen::Unread => telling::say(&STEP, number, b"standard input is no file that can be read"),
         Seen::End => tally.table(),
     }
     next
@@ -101,7 +104,7 @@ fn all_steps(stream: &mut [u8], out: &mut [u8]) {
 }
 
 fn main() {
-    // the longest case with its outcome: `longest` of crates/cases/proofs/Heads.antt
+    // the longest case with its outcome: `longest` of crates/cases/proofs/Limits.antt
     let mut stream = [0u8; 399609];
     let mut out = [0u8; 66585];
     all_steps(&mut stream, &mut out);

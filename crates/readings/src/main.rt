@@ -1,13 +1,16 @@
 // The readings of document 01 that the checker does not settle, set up, stepped and printed beside what document 01 says.
+mod columns;
 mod found;
+mod parts;
+mod phrases;
 mod rows;
 mod setups;
-mod texts;
-mod told;
+mod steps;
 
+use columns::column;
+use parts::part;
 use rows::Row;
 use texts::Text;
-use texts::part;
 
 // How many rows came as document 01 says, of how many.
 struct Tally {
@@ -17,10 +20,10 @@ struct Tally {
 
 // Writes a line of the table, but for its verdict.
 fn line(word: Text, setup: &[u8], says: &[u8], came: Text) {
-    word.column(8);
-    Text::of(setup).column(46);
-    Text::of(says).column(48);
-    came.column(48);
+    column(word, 8);
+    column(Text::of(setup), 46);
+    column(Text::of(says), 48);
+    column(came, 48);
 }
 
 // Runs a row and writes its line. The verdict is whether the text of what came is what document 01 says.
@@ -32,8 +35,8 @@ fn reading<'a>(
     flash: &'a [u8],
     ram: &'a [u8],
 ) -> Tally {
-    let came = setups::stepped(row, part(flash, row.flash), part(ram, row.ram));
-    line(Text::word(row.word), setup, says, came);
+    let came = steps::stepped(row, part(flash, row.flash), part(ram, row.ram));
+    line(columns::word(row.word), setup, says, came);
     let rows = std::num::wrapping_add_u64(tally.rows, 1);
     if came.same(says) {
         io::write_all(1, b"as it says\n");

@@ -1,10 +1,11 @@
 // Cases in, outcomes out, in the format of docs/CASES.md: all that matters is `cases::answer`; here it is only read and written.
-mod telling;
-
 use cases::Answered;
 use cases::Opened;
 use libc::STDIN_FILENO;
 use libc::STDOUT_FILENO;
+
+// What a line on standard error begins with.
+const CASE: [u8; 13] = *b"replay: case ";
 
 // Reads into a part of the buffer until it is full or the input ends, and answers how many bytes came.
 fn read_part(stream: &mut [u8], from: usize, to: usize) -> usize {
@@ -23,7 +24,7 @@ fn read_head(number: u64, stream: &mut [u8]) -> usize {
     }
     let got = libc::read(STDIN_FILENO, &mut stream[0..96]);
     if got < 0 {
-        telling::say(number, b"standard input cannot be read");
+        telling::say(&CASE, number, b"standard input cannot be read");
         return 0;
     }
     let n = io::count(got, stream);
@@ -40,7 +41,7 @@ fn write_outcome(number: u64, out: &[u8], given: usize) -> bool {
             return true;
         }
     }
-    telling::say(number, b"standard output cannot be written");
+    telling::say(&CASE, number, b"standard output cannot be written");
     false
 }
 
@@ -49,7 +50,7 @@ fn answered(number: u64, stream: &[u8], n: usize, out: &mut [u8]) -> bool {
     if n <= stream.len() {
         match cases::answer(&stream[0..n], out) {
             Answered::Written(_, given) => return write_outcome(number, out, given),
-            Answered::Not(why) => telling::refused(number, why),
+            Answered::Not(why) => telling::refused(&CASE, number, why),
         }
     }
     false
@@ -66,7 +67,7 @@ fn one_case(number: u64, stream: &mut [u8], out: &mut [u8]) -> bool {
     }
     match cases::head(&stream[0..got]) {
         Opened::Broken(why) => {
-            telling::refused(number, why);
+            telling::refused(&CASE, number, why);
             false
         }
         Opened::Holds(_, whole) => {
@@ -88,7 +89,7 @@ fn all_cases(stream: &mut [u8], out: &mut [u8]) {
 }
 
 fn main() {
-    // the longest case, and the longest outcome: `longest` of crates/cases/proofs/Heads.antt
+    // the longest case, and the longest outcome: `longest` of crates/cases/proofs/Limits.antt
     let mut stream = [0u8; 333024];
     let mut out = [0u8; 66585];
     all_cases(&mut stream, &mut out);

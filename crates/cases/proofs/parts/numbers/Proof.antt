@@ -34,7 +34,8 @@ numbers-spec =
     let g = c .before .before .before .before .before .args in (
       omega (arith, c .before .loop-test .taken),
       rw length-set (t .inv .1),
-      stored (λ k. bytesAt (g .s .now) (g .at + 8 * k) 8) (t .x) (t .i) _ (omega (arith, t .inv .1, c .before .loop-test .taken)) (t .inv .2) (c .number .ensures .0),
+      stored (λ k. bytesAt (g .s .now) (g .at + 8 * k) 8) (t .x) (t .i) _
+          (omega (arith, t .inv .1, c .before .loop-test .taken)) (t .inv .2) (c .number .ensures .0),
     ))
     (λ c. c .before .loop .inv .1)
     (λ c. is-listed _ _ _ (c .before .loop .inv .1) (λ k l. c .before .loop .inv .2 k (omega (arith, c .loop-test .left)))))

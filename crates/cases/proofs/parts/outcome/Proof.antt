@@ -3,12 +3,9 @@ use mathlib.Core.Path.{_≡_, refl, sym, ap, _∙_}
 use mathlib.Core.List.{List, _++_, append-assoc}
 use Prim.Native.Nat.{ℕ, _+_, _-_, _*_, _≤_}
 use native.Mathlib.Omega.{arith}
-use native.Mathlib.Nat.{le-trans, le-of-eq, le-add-right}
+use borrow.Author.Needs.{needs}
 use lib.ListN.{length, take, drop, length-take}
 use lib.Seq.{drop-at}
-use mir.Facts.{fits-le}
-use mir.Syntax.{w64}
-use mir.Val.{Fits}
 use Rattle.ground.specs.Lists.{replaced}
 use Rattle.ground.proofs.Fills.{part-length, back-in, replaced-next}
 use Rattle.loads.specs.Answers.{reportOf}
@@ -18,7 +15,7 @@ use Rattle.bench.specs.Lends.{benchOf}
 use Rattle.cases.specs.Parts.{part, ramAt, lentIn, benchIn}
 use Rattle.cases.specs.Outcomes.{eights, reportBytes, outcomeBytes, outcomeLength}
 use Rattle.cases.specs.Answers.{outcomeIn}
-use Rattle.cases.specs.declared.Case.{Case}
+use Rattle.cases.specs.declared.heads.Case.{Case}
 use Rattle.cases.proofs.parts.outcome.Statement.{statement}
 use Rattle.cases.proofs.parts.outcome.Tie as tie
 
@@ -40,59 +37,33 @@ layers : (out z xs ys : List ℕ) (n m : ℕ) → xs ≡ ys
 layers out z xs ys n m e = back-in _ xs ys (25 + n) m e ∙ ap (λ (l : List ℕ). replaced l (25 + n) m ys) (back-in out z z 25 n refl)
 
 -- the outcome: the report, and behind it what the step left
-told : (s : List ℕ) (c : Case) (out : List ℕ) (r : StepResult) {z x : List ℕ}
+as-outcome : (s : List ℕ) (c : Case) (out : List ℕ) (r : StepResult) {z x : List ℕ}
     → (let l = lentIn s c in StepPromise l (c .word) (benchIn s c) r l (benchOf z x (part s (ramAt c) (c .ram))))
     → reportBytes (reportOf r) ++ ((z ++ eights x) ++ drop (outcomeLength c) out) ≡ outcomeIn s c out
 unfolding outcomeIn outcomeBytes
-told s c out r {z} {x} h = rw (← h) (sym (append-assoc (reportBytes (reportOf r)) (z ++ eights x) (drop (outcomeLength c) out)))
-
--- where z and x end, within the bytes that are lent
-module _ (c : Case) {k n : ℕ} (e : k ≡ c .x) (room : outcomeLength c ≤ n) where
-  z-in : 25 + c .z ≤ n
-  z-in = omega arith
-
-  x-in : 25 + c .z + 8 * k ≤ n
-  x-in = omega arith
-
-  long-x : 8 * k ≤ n
-  long-x = omega arith
-
--- .. and no place is too large
-fits : (g : tie.Start) {n : ℕ} → n ≤ length (g .args .out .now) → Fits w64 n
-fits g h = fits-le h (record { fits = g .good .0 .0 })
-
--- as many bytes as before
-as-long : {k n m : ℕ} → n ≡ m → k ≤ m → k ≤ n
-as-long e h = le-trans h (le-of-eq (sym e))
-
--- 8 for each number
-by-eight : (a : ℕ) {k l m : ℕ} → l ≡ a + 8 * k - a → m ≡ k → l ≡ m * 8
-by-eight a h e = omega arith
+as-outcome s c out r {z} {x} h = rw (← h) (sym (append-assoc (reportBytes (reportOf r)) (z ++ eights x) (drop (outcomeLength c) out)))
 
 pub outcome-spec : {M : Type 1} → statement M
 outcome-spec =
     tie.close (tie.spec
-    (λ c. let g = c .before .before .before .before in fits g (z-in (g .args .case) (g .pre .0) (g .pre .1)))
-    (λ c. let g = c .before .before .before .before in fits g (long-x (g .args .case) (g .pre .0) (g .pre .1)))
-    (λ c. let g = c .before .before .before .before in fits g (x-in (g .args .case) (g .pre .0) (g .pre .1)))
-    (λ c. le-add-right _ _) (λ c. le-add-right _ _) (λ c. let g = c .before .before .before .before in z-in (g .args .case) (g .pre .0) (g .pre .1))
-    (λ c κs. let g = c .before .before .before .before .before .before in (part-length (g .args .out .now) 25 (g .args .case .z) (z-in (g .args .case) (g .pre .0) (g .pre .1)), g .pre .0, g .pre .2))
-    (λ c. le-add-right _ _) (λ c. le-add-right _ _) (λ c. let g = c .before .before .before .before .before .before .before .before .before .before .before in as-long (c .before .before .before .out .given .1) (x-in (g .args .case) (g .pre .0) (g .pre .1)))
-    (λ c κs. by-eight (25 + c .before .before .before .before .before .before .before .before .before .before .before .before .before .args .case .z) (c .before .put-numbers-arg .given .2) (c .before .before .before .x .given))
-    (λ c κs. let g = c .before .before .before .before .before .before .before .before .before .before .before .before .before .before .before .before .before in as-long (c .before .before .out2 .given .1 ∙ c .before .before .before .before .before .before .before .before .before .out .given .1) (le-trans (le-add-right _ _) (z-in (g .args .case) (g .pre .0) (g .pre .1))))
-    (λ c. c .before .out3 .given ∙ c .before .before .before .before .before .out2 .given .1 ∙ c .before .before .before .before .before .before .before .before .before .before .before .before .out .given .1) (λ c. c .before .before .before .before .before .before .before .before .before .before .x .given)
+    (λ c. search needs) (λ c. search needs) (λ c. search needs) (λ c. search needs) (λ c. search needs) (λ c. search needs)
+    (λ c κs. search needs) (λ c. search needs) (λ c. search needs) (λ c. search needs) (λ c κs. search needs)
+    (λ c κs. search needs) (λ c. search needs) (λ c. search needs)
     (λ c.
-    let g = c .before .before .before .before .before .before .before .before .before .before .before .before .before .before .before .before .before .before .before .before in
+    let put = c .before .before .before .before .before .before in
+    let back = put .before .before .before .before .before .before in
+    let g = back .before .before .before .before .before .before .before .before in
+    let step = back .before .stepped in
     let out = g .args .out .now in
-    let n = g .args .case .z in
+    let n = g .args .case .vectors in
     let m = 8 * length (g .args .x .now) in
-    let z = c .before .before .before .before .before .before .before .before .before .before .before .before .before .stepped .last .0 in
-    let x = c .before .before .before .before .before .before .before .before .before .before .before .before .before .stepped .last .1 .0 in
-    let given : length z ≡ length (take (25 + n - 25) (drop 25 out)) = c .before .before .before .before .before .before .before .before .before .before .before .before .out .given .0 in
-    let size : length z ≡ n = given ∙ part-length out 25 n (z-in (g .args .case) (g .pre .0) (g .pre .1)) in
-    let room : 25 + n + m ≤ length out = x-in (g .args .case) (g .pre .0) (g .pre .1) in
+    let z = step .last .0 in
+    let x = step .last .1 .0 in
+    let room : 25 + n + m ≤ length out = omega (arith, g .pre .0, g .pre .1) in
+    let size : length z ≡ n = back .out .given .0 ∙ part-length out 25 n (omega arith) in
     let far : 25 + n + m ≡ outcomeLength (g .args .case) = ap (λ (k : ℕ). 25 + n + 8 * k) (g .pre .0) in
     c .before .before .put-report .ensures
-    ∙ ap (λ (l : List ℕ). reportBytes (reportOf (c .before .before .before .before .before .before .before .before .before .before .before .before .before .stepped .result)) ++ drop 25 l) (layers out z _ (eights x) n m (c .before .before .before .before .before .before .put-numbers .ensures))
-    ∙ ap (λ (l : List ℕ). reportBytes (reportOf (c .before .before .before .before .before .before .before .before .before .before .before .before .before .stepped .result)) ++ l) (behind out n m z (eights x) size room ∙ ap (λ (k : ℕ). (z ++ eights x) ++ drop k out) far)
-    ∙ told (g .args .s .now) (g .args .case) out (c .before .before .before .before .before .before .before .before .before .before .before .before .before .stepped .result) (c .before .before .before .before .before .before .before .before .before .before .before .before .before .stepped .ensures)))
+    ∙ ap (λ (l : List ℕ). reportBytes (reportOf (step .result)) ++ drop 25 l) (layers out z _ (eights x) n m (put .put-numbers .ensures))
+    ∙ ap (λ (l : List ℕ). reportBytes (reportOf (step .result)) ++ l)
+    (behind out n m z (eights x) size room ∙ ap (λ (k : ℕ). (z ++ eights x) ++ drop k out) far)
+    ∙ as-outcome (g .args .s .now) (g .args .case) out (step .result) (step .ensures)))

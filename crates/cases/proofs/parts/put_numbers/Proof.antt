@@ -36,8 +36,11 @@ put-numbers-spec =
     (λ c. let s = c .before .loop .inv .1 .size in omega (arith, fits c))
     (λ c. search needs) (λ c. search needs) (λ c κs. tt) (λ c. search needs) (λ c. omega arith)
     (λ c.
-    let t = c .before .before .before .before .before in
-    (omega (arith, t .loop-test .taken), digits-filled (t .before .loop .inv .1) _ (fits t) (λ j k. rw (digits-div (t .before .loop .i) k, digits-mod (t .before .loop .i) k)) _ (c .before .before .put .ensures)))
+    let t = c .before .before .before .before .before in (
+      omega (arith, t .loop-test .taken),
+      digits-filled (t .before .loop .inv .1) _ (fits t)
+          (λ j k. rw (digits-div (t .before .loop .i) k, digits-mod (t .before .loop .i) k)) _ (c .before .before .put .ensures),
+    ))
     (λ c. c .before .loop .inv .1 .size)
     (λ c.
     let g = c .before .before .before .before in

@@ -30,6 +30,7 @@ put-report-spec =
     (λ c. record { fits = rw (c .number .ensures) (in-byte (c .before .before .before .before .before .before .before .before .before .args .result .answer)) })
     (λ c. search needs) (λ c. search needs)
     (λ c.
-    let g = c .before .before .before .before .before .before .before .before .before in
-    reported (g .args .dst .now) (g .args .result) (c .before .before .before .put-numbers .ensures)
-    (c .before .before .before .before .before .before .before .element .ensures) (c .before .before .before .before .before .before .address .ensures) (c .number .ensures) (omega (arith, g .pre))))
+    let t = c .before .before .before .before .before .before in
+    let g = t .before .before .before in
+    reported (g .args .dst .now) (g .args .result) (c .before .before .before .put-numbers .ensures) (t .before .element .ensures) (t .address .ensures)
+    (c .number .ensures) (omega (arith, g .pre))))

@@ -12,4 +12,6 @@ abbrev μ-loop : tie.MeasureT-loop
 μ-loop area bits k₀ k = k
 
 pub find-spec : {M : Type 1} → statement M
-find-spec = tie.close (tie.spec Inv-loop μ-loop (λ c. search needs) (λ c. search needs) (λ c κs. search needs) (λ c. search needs) (λ c. search needs) (λ c. search needs) (λ c. search needs))
+find-spec =
+    tie.close (tie.spec Inv-loop μ-loop (λ c. search needs) (λ c. search needs) (λ c κs. search needs) (λ c. search needs)
+    (λ c. search needs) (λ c. search needs) (λ c. search needs))

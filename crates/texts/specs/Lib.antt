@@ -1,0 +1,2 @@
+-- What the contracts of a text are stated with.
+pub mod Texts

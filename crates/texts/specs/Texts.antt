@@ -1,0 +1,37 @@
+-- A text: what it says, with more behind it, and a number in decimal.
+use Prim.Native.Nat.{ℕ, zero, suc, _+_, _-_, _/_, min}
+use mathlib.Core.Bool.{Bool, true, false, _&&_}
+use mathlib.Core.List.{List, [], _∷_}
+use lib.Dec.{eqb, ltb}
+use lib.ListN.{length, take, replicate}
+use Rattle.ground.specs.Choices.{if_then_else_}
+use Rattle.ground.specs.Lists.{replaced}
+use Rattle.io.specs.Digits.{digits}
+use Rattle.texts.specs.declared.Text.{Text}
+
+-- what a text says
+abbrev pub bytesIn : Text → List ℕ
+bytesIn t = take (t .n) (t .bytes)
+
+abbrev pub empty : Text
+empty = record { bytes = replicate 64 32; n = 0 }
+
+-- a text with bytes behind it: as many of them as have room, over as many of its 64 bytes
+unfoldable pub andOf : Text → List ℕ → Text
+andOf t s = let k = min (length s) (64 - t .n) in record { bytes = replaced (t .bytes) (t .n) k (take k s); n = t .n + k }
+
+-- how many decimal digits a number has that is n at most
+abbrev pub placesOf : ℕ → ℕ → ℕ
+placesOf zero v = 1
+placesOf (suc n) v = if ltb v 10 then 1 else suc (placesOf n (v / 10))
+
+-- a number in decimal
+unfoldable pub decimalOf : ℕ → List ℕ
+decimalOf v = digits 10 (placesOf v v) v
+
+-- whether two lists are the same
+abbrev pub alike : List ℕ → List ℕ → Bool
+alike [] [] = true
+alike [] (b ∷ t) = false
+alike (a ∷ s) [] = false
+alike (a ∷ s) (b ∷ t) = eqb a b && alike s t
