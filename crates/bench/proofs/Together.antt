@@ -15,7 +15,7 @@ use Rattle.ground.specs.Lists.{bytesAt}
 use Rattle.ground.specs.Sizes.{bytesOf}
 use Rattle.ground.proofs.Laws.{true-or-false, and-left, and-right, little-cong}
 use Rattle.memory.specs.Addresses.{plusOf}
-use Rattle.memory.specs.Areas.{Area, Areas}
+use Rattle.memory.specs.Areas.{pageBytes, Area, Areas}
 use Rattle.memory.specs.Bytes.{lookOf}
 use Rattle.memory.specs.Elements.{readingOf}
 use Rattle.memory.specs.Said.{AreaTaken, Taken, Of, in-flash, in-ram}
@@ -44,8 +44,8 @@ between P p x q low high near at-p at-q =
     (true-or-false (eqb x p))
 
 -- n bytes, no more than a page, from place `at` of an area on
-module _ (r : Area) (a n at : ℕ) (few : n ≤ 4096) (place : at + r .start ≡ a) (inside : at + n ≤ length (r .bytes))
-    (first : getD (r .rights) (at / 4096) 0 % 2 ≡ 1) (last : getD (r .rights) ((at + n - 1) / 4096) 0 % 2 ≡ 1) where
+module _ (r : Area) (a n at : ℕ) (few : n ≤ pageBytes) (place : at + r .start ≡ a) (inside : at + n ≤ length (r .bytes))
+    (first : getD (r .rights) (at / pageBytes) 0 % 2 ≡ 1) (last : getD (r .rights) ((at + n - 1) / pageBytes) 0 % 2 ≡ 1) where
   here : (i : ℕ) → a + i - r .start ≡ at + i
   here i = omega arith
 
@@ -54,7 +54,8 @@ module _ (r : Area) (a n at : ℕ) (few : n ≤ 4096) (place : at + r .start ≡
       record {
         held = λ i l. (omega arith, omega arith);
         right =
-            λ i l. rw (here i) (between (λ x. getD (r .rights) x 0 % 2 ≡ 1) (at / 4096) ((at + i) / 4096) ((at + n - 1) / 4096) (omega arith) (omega arith)
+            λ i l. rw (here i) (between (λ x. getD (r .rights) x 0 % 2 ≡ 1) (at / pageBytes) ((at + i) / pageBytes) ((at + n - 1) / pageBytes) (omega arith)
+            (omega arith)
             (omega arith) first last);
         bytes =
             λ i l. let k : i < at + n - at = omega arith in getD-take (at + n - at) (drop at (r .bytes)) i 0 k ∙ getD-drop at (r .bytes) i 0

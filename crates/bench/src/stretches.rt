@@ -1,10 +1,11 @@
 // A stretch: bytes that lie together, whole in one area and on pages that may be read. Bounds and rights are looked at here, and no byte.
 use memory::Address;
 use memory::Map;
+use memory::PAGE_BYTES;
 ghost use mathlib.Core.Path.{_≡_};
 ghost use Prim.Native.Nat.{_≤_, _<_};
 ghost use lib.ListN.{length};
-ghost use Rattle.memory.specs.Areas.{areasOf};
+ghost use Rattle.memory.specs.Areas.{pageBytes, areasOf};
 ghost use Rattle.memory.specs.Said.{AreaTaken, Taken};
 ghost use Rattle.bench.specs.Stretches.{areaOf, Within, Together};
 
@@ -12,7 +13,7 @@ ghost use Rattle.bench.specs.Stretches.{areaOf, Within, Together};
 // than a page, so that their first and their last byte touch every page that they touch.
 fn in_area<'a>(start: Address, bytes: &'a [u8], rights: &[u8], a: Address, n: usize) -> &'a [u8]
     requires { ⌜ AreaTaken (areaOf start (now bytes) (now rights)) ⌝ }
-    requires { ⌜ (0 < n) × (n ≤ 4096) ⌝ }
+    requires { ⌜ (0 < n) × (n ≤ pageBytes) ⌝ }
     ensures { λ s. ⌜ (length (s .now) ≡ n → Within (areaOf start (now (bytes .entry)) (now (rights .entry))) (a .0) n (s .now)) ⌝ }
 {
     let len = bytes.len();
@@ -22,7 +23,7 @@ fn in_area<'a>(start: Address, bytes: &'a [u8], rights: &[u8], a: Address, n: us
         if far <= (len - n) as u64 {
             let at = far as usize;
             let end = at + n;
-            if (rights[at / 4096] % 2 == 1) & (rights[(end - 1) / 4096] % 2 == 1) {
+            if (rights[at / PAGE_BYTES] % 2 == 1) & (rights[(end - 1) / PAGE_BYTES] % 2 == 1) {
                 return &bytes[at..end];
             }
         }
@@ -41,7 +42,7 @@ pub(crate) fn find<'a>(
     n: usize,
 ) -> &'a [u8]
     requires { ⌜ Taken (areasOf map (now flash) (now «flash_rights») (now ram) (now «ram_rights»)) ⌝ }
-    requires { ⌜ (0 < n) × (n ≤ 4096) ⌝ }
+    requires { ⌜ (0 < n) × (n ≤ pageBytes) ⌝ }
     ensures { λ s. ⌜ (length (s .now) ≡ n → Together
         (areasOf map (now (flash .entry)) (now («flash_rights» .entry)) (now (ram .entry)) (now («ram_rights» .entry)))
         (a .0) n (s .now)) ⌝ }

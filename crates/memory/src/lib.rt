@@ -205,7 +205,8 @@ fn bytes_from(
     n: u64,
 ) -> Reading
     requires { ⌜ n ≤ 8 ⌝ }
-    ensures { λ r. ⌜ r ≡ readingOf (lookOf (areasOf map (now (flash .entry)) (now («flash_rights» .entry)) (now (ram .entry)) (now («ram_rights» .entry)))) (a .0) n ⌝ }
+    ensures { λ r. ⌜ r
+        ≡ readingOf (lookOf (areasOf map (now (flash .entry)) (now («flash_rights» .entry)) (now (ram .entry)) (now («ram_rights» .entry)))) (a .0) n ⌝ }
 {
     let mut here = a;
     let mut value: u64 = 0;
@@ -233,7 +234,9 @@ pub fn element(
     a: Address,
     size: Size,
 ) -> Reading
-    ensures { λ r. ⌜ r ≡ readingOf (lookOf (areasOf map (now (flash .entry)) (now («flash_rights» .entry)) (now (ram .entry)) (now («ram_rights» .entry)))) (a .0) (bytesOf size) ⌝ }
+    ensures { λ r. ⌜ r
+        ≡ readingOf (lookOf (areasOf map (now (flash .entry)) (now («flash_rights» .entry)) (now (ram .entry)) (now («ram_rights» .entry))))
+        (a .0) (bytesOf size) ⌝ }
 {
     bytes_from(map, flash, flash_rights, ram, ram_rights, a, size.bytes())
 }
@@ -271,7 +274,8 @@ pub fn window<'f, 'r: 'f>(
     ram_rights: &[u8],
     a: Address,
 ) -> &'f [u8]
-    ensures { λ p. ⌜ WindowPromise (areasOf map (now (flash .entry)) (now («flash_rights» .entry)) (now (ram .entry)) (now («ram_rights» .entry))) (a .0) (flash .entry) (ram .entry) p ⌝ }
+    ensures { λ p. ⌜ WindowPromise (areasOf map (now (flash .entry)) (now («flash_rights» .entry)) (now (ram .entry)) (now («ram_rights» .entry)))
+        (a .0) (flash .entry) (ram .entry) p ⌝ }
 {
     match shown(map, flash, flash_rights, ram, ram_rights, a) {
         Place::Flash(k) => &flash[k..],

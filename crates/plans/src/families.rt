@@ -101,7 +101,8 @@ fn plan_with(
     amount: u64,
 ) -> Plan
     ensures { λ r. ⌜ r
-        ≡ planWith insn (record { start = start .0; elements = elements; filled = filled; rule = rule; consulted = consulted; back = back; amount = amount }) ⌝ }
+        ≡ planWith insn
+        (record { start = start .0; elements = elements; filled = filled; rule = rule; consulted = consulted; back = back; amount = amount }) ⌝ }
 {
     let element = insn.element;
     let size = element.memory;

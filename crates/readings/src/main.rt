@@ -4,8 +4,8 @@ mod found;
 mod parts;
 mod phrases;
 mod rows;
+mod runs;
 mod setups;
-mod steps;
 
 use columns::column;
 use parts::part;
@@ -35,7 +35,7 @@ fn reading<'a>(
     flash: &'a [u8],
     ram: &'a [u8],
 ) -> Tally {
-    let came = steps::stepped(row, part(flash, row.flash), part(ram, row.ram));
+    let came = runs::stepped(row, part(flash, row.flash), part(ram, row.ram));
     line(columns::word(row.word), setup, says, came);
     let rows = std::num::wrapping_add_u64(tally.rows, 1);
     if came.same(says) {

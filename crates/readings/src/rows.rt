@@ -1,4 +1,5 @@
 // The rows of document 01's "Readings to reproduce" that carry no star, and the sentence below them: what is set up.
+use memory::PAGE_BYTES;
 
 // What a row speaks of where the load ran.
 pub enum Tell {
@@ -34,7 +35,7 @@ fn plain(word: u32, tell: Tell) -> Row {
         p0: 0xffff_ffff,
         x0: 6144,
         flash: 8192,
-        ram: 4096,
+        ram: PAGE_BYTES,
         page1: 0xff,
         limit: false,
         tell,

@@ -1,6 +1,7 @@
 // What a row's bench is made of: every byte and number of it non-zero, so that what becomes zero shows, and what stays as it was.
 use crate::parts::least;
 use memory::Address;
+use memory::PAGE_BYTES;
 
 // Byte k of an area or file: two digits of its number by threes, and a tag. No eight bytes in a row lie at two places, and
 // none of them is zero.
@@ -58,12 +59,12 @@ pub(crate) fn predicates(p0: u32) -> [u8; 544] {
 
 // How many pages n bytes begin.
 pub(crate) fn pages(n: usize) -> usize {
-    n / 4096 + (n % 4096 + 4095) / 4096
+    n / PAGE_BYTES + (n % PAGE_BYTES + PAGE_BYTES - 1) / PAGE_BYTES
 }
 
 // Where RAM starts, so that its last page ends at 2^64.
 pub(crate) fn ram_start(n: usize) -> Address {
-    let size = least(pages(n), 17) * 4096;
+    let size = least(pages(n), 17) * PAGE_BYTES;
     Address(std::num::wrapping_sub_u64(0, size as u64))
 }
 

@@ -4,6 +4,7 @@ use native.Mathlib.Omega.{arith}
 use borrow.Author.Needs.{needs}
 use denote.Ref.{now}
 use lib.ListN.{getD}
+use Rattle.memory.specs.Areas.{pageBytes}
 use Rattle.bench.specs.Stretches.{areaOf}
 use Rattle.bench.proofs.Together.{both-ones, within}
 use Rattle.bench.proofs.stretches.in_area.Statement.{statement}
@@ -16,7 +17,7 @@ in-area-spec =
     (λ c. λ _.
     let g = c .before .before .before .before .before .before .before .before .before in
     let at = c .before .before .before .before .before .wrapping-sub-u64 .result in
-    let ones = both-ones (getD (now (g .args .rights)) (at / 4096) 0 % 2) (getD (now (g .args .rights)) ((at + g .args .n - 1) / 4096) 0 % 2)
+    let ones = both-ones (getD (now (g .args .rights)) (at / pageBytes) 0 % 2) (getD (now (g .args .rights)) ((at + g .args .n - 1) / pageBytes) 0 % 2)
     (c .before .if3 .taken) in
     within (areaOf (g .args .start) (now (g .args .bytes)) (now (g .args .rights))) (g .args .a .0) (g .args .n) at (g .pre .1 .1) (omega arith) (omega arith)
     (ones .0) (ones .1))

@@ -1,8 +1,8 @@
 -- `others_kept` is safe and ends: the index stays below PC's. The measure is how many numbers are left.
 use Prim.Native.Nat.{_-_, _≤_}
 use borrow.Author.Needs.{needs}
-use Rattle.readings.proofs.steps.others_kept.Statement.{statement}
-use Rattle.readings.proofs.steps.others_kept.Tie as tie
+use Rattle.readings.proofs.runs.others_kept.Statement.{statement}
+use Rattle.readings.proofs.runs.others_kept.Tie as tie
 
 abbrev Inv-loop : tie.InvT-loop
 Inv-loop now before i₀ i = i ≤ 32
