@@ -6,10 +6,9 @@ use mathlib.Core.List.{List}
 use mathlib.Core.Logic.{_↔_}
 use lib.ListN.{length}
 use borrow.Author.Tests.{leb-true, le-leb, eqb-true, eq-eqb}
-use Rattle.ground.specs.Choices.{allOf}
-use Rattle.ground.proofs.Laws.{all-of, all-hold, both, and-left, and-right}
+use Rattle.ground.proofs.Laws.{all-of, all-hold}
 use Rattle.memory.proofs.Takes.{taken-exactly}
-use Rattle.loads.specs.Benches.{Lent, Bench, areas, lengthTests, isLengthAllowed, fileTests, accepted}
+use Rattle.loads.specs.Benches.{Lent, Bench, areas, lengthTests, isLengthAllowed, fileTests, acceptedTests, accepted}
 use Rattle.loads.specs.Said.{LengthAllowed, Accepted}
 
 pub length-exactly : (vl : ℕ) → (isLengthAllowed vl ≡ true) ↔ LengthAllowed vl
@@ -19,30 +18,32 @@ length-exactly vl = (
 )
 
 module _ (l : Lent) (b : Bench) where
-  abbrev tests : List Bool
-  tests = fileTests (l .settings .vl) (length (b .vectors)) (length (l .predicates)) (length (b .scalars))
+  abbrev files : List Bool
+  files = fileTests (l .settings .vl) (length (b .vectors)) (length (l .predicates)) (length (b .scalars))
 
   told : accepted l b ≡ true → Accepted l b
   unfolding accepted
   told h =
-      let t = all-of tests (and-left (allOf tests) _ h) in
+      let t = all-of (acceptedTests l b) h in
+      let f = all-of files (t 0) in
       record {
-        allowed = length-exactly (l .settings .vl) .0 (t 0);
-        vectors = eqb-true _ _ (t 1);
-        predicates = eqb-true _ _ (t 2);
-        scalars = eqb-true _ _ (t 3);
-        taken = taken-exactly (areas l b) .0 (and-right (allOf tests) _ h);
+        allowed = length-exactly (l .settings .vl) .0 (f 0);
+        vectors = eqb-true _ _ (f 1);
+        predicates = eqb-true _ _ (f 2);
+        scalars = eqb-true _ _ (f 3);
+        taken = taken-exactly (areas l b) .0 (t 1);
       }
 
   met : Accepted l b → accepted l b ≡ true
   unfolding accepted
   met a =
-      both (allOf tests) _
-      (all-hold tests (
-        length-exactly (l .settings .vl) .1 (a .allowed),
-        (eq-eqb _ _ (a .vectors), (eq-eqb _ _ (a .predicates), (eq-eqb _ _ (a .scalars), tt))),
-      ))
-      (taken-exactly (areas l b) .1 (a .taken))
+      all-hold (acceptedTests l b) (
+        all-hold files (
+          length-exactly (l .settings .vl) .1 (a .allowed),
+          (eq-eqb _ _ (a .vectors), (eq-eqb _ _ (a .predicates), (eq-eqb _ _ (a .scalars), tt))),
+        ),
+        (taken-exactly (areas l b) .1 (a .taken), tt),
+      )
 
   pub accepted-exactly : (accepted l b ≡ true) ↔ Accepted l b
   accepted-exactly = (told, met)

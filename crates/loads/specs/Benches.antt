@@ -1,6 +1,6 @@
 -- "The lent bench", and which set-ups are accepted.
 use Prim.Native.Nat.{ℕ, _*_, _/_, _%_}
-use mathlib.Core.Bool.{Bool, _&&_}
+use mathlib.Core.Bool.{Bool}
 use mathlib.Core.List.{List, [], _∷_}
 use lib.Dec.{leb, eqb}
 use lib.ListN.{length}
@@ -41,7 +41,11 @@ fileTests vl z p x = isLengthAllowed vl ∷ eqb z (32 * (vl / 8)) ∷ eqb p (16 
 abbrev pub areFilesAccepted : ℕ → ℕ → ℕ → ℕ → Bool
 areFilesAccepted vl z p x = allOf (fileTests vl z p x)
 
-unfoldable pub accepted : Lent → Bench → Bool
-accepted l b =
+abbrev pub acceptedTests : Lent → Bench → List Bool
+acceptedTests l b =
     areFilesAccepted (l .settings .vl) (length (b .vectors)) (length (l .predicates)) (length (b .scalars))
-    && areasTaken (areas l b)
+    ∷ areasTaken (areas l b)
+    ∷ []
+
+unfoldable pub accepted : Lent → Bench → Bool
+accepted l b = allOf (acceptedTests l b)

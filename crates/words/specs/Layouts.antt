@@ -10,7 +10,7 @@ use Rattle.ground.specs.Pieces.{Piece, _▹_, word, FitWidths}
 use Rattle.words.specs.Dtypes.{plainOf, dtypeOf}
 use Rattle.words.specs.Insns.{insn, Insn, Replicate, ByElement, Contiguous, Block, None, By, Imm, Reg, Keep, Post, Decoded, Undefined, Is}
 
--- a row with its fields; a block's is LD1RQ, and LD1RO where it is wide
+-- a row with its fields: LD1R with no offset, post-index and by element; LD1; and a block's, which is LD1RQ, or LD1RO where it is wide
 pub data Family : Type 0 where
   ld1r-keep : (q l s size rn rt : ℕ) → Family
   ld1r-post : (q l rm s size rn rt : ℕ) → Family

@@ -175,11 +175,11 @@ pub fn read(word: u32) -> Decoded
     ensures { λ r. ⌜ r ≡ readOf word ⌝ }
 {
     let low = word / 0x8000_0000 % 2 == 0b0;
-    let bits_29_23 = word / 0x0080_0000 % 128;
     let top = word / 0x0200_0000 % 128;
     let op = word / 0x0000_2000 % 8;
     let imm = Offset::Imm(word / 0x0001_0000 % 16);
     let reg = Offset::Reg(word / 0x0001_0000 % 32);
+    let bits_29_23 = word / 0x0080_0000 % 128;
     if low & (bits_29_23 == 0b0011010) & (word / 0x0000_2000 % 512 == 0b000000110) {
         return replicate(word, Back::Keep);
     }
