@@ -4,7 +4,7 @@ use second::machine::Bench;
 
 /// The report as the static library gives it.
 #[repr(C)]
-pub struct Told {
+pub struct StepNumbers {
     pub number: u64,
     pub count: u64,
     pub element: u64,
@@ -35,7 +35,7 @@ extern "C" {
         flash_rights_len: usize,
         ram_rights: *const u8,
         ram_rights_len: usize,
-    ) -> Told;
+    ) -> StepNumbers;
 }
 
 /// A bench as the static library wants it, argument by argument. A host that makes many steps has
@@ -79,7 +79,7 @@ impl Lent<'_> {
 
     /// Becomes a part of the loop that calls it: no call between counts as the step's.
     #[inline(always)]
-    pub fn step(&mut self, word: u32) -> Told {
+    pub fn step(&mut self, word: u32) -> StepNumbers {
         // SAFETY: each pointer comes with the length of its own slice, all of them live through the
         // call, and z and x, which are written, are borrowed for this call alone
         unsafe {

@@ -17,8 +17,8 @@ use Rattle.ground.proofs.Laws.{digit-mod, pow-bytes}
 use Rattle.ground.proofs.Sizes.{bytes-few}
 use Rattle.memory.specs.Addresses.{wrap}
 use Rattle.memory.specs.declared.Reading.{Reading}
-use Rattle.loads.specs.Outcomes.{extended, laneValue, registerByte}
-use Rattle.loads.specs.declared.Plan.{Plan}
+use Rattle.steps.specs.Outcomes.{extended, laneValue, registerByte}
+use Rattle.steps.specs.declared.Plan.{Plan}
 use lib.ListN.{length, take, drop}
 
 -- what a lane has above a number of another size

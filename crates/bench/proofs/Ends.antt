@@ -11,32 +11,32 @@ use lib.ListN.{length, take, drop, length-take, length-drop, take-append-drop}
 use Rattle.ground.specs.Choices.{if_then_else_}
 use Rattle.ground.proofs.Fills.{back-in, part-length}
 use Rattle.ground.proofs.Laws.{true-or-false, never}
-use Rattle.memory.specs.Areas.{areasTaken}
+use Rattle.memory.specs.Areas.{areAreasAccepted}
 use Rattle.memory.specs.declared.Reading.{Reading}
-use Rattle.loads.specs.Benches.{Lent, Bench, areas, areFilesAccepted, accepted}
-use Rattle.loads.specs.Answers.{numberOf, reportOf}
-use Rattle.loads.specs.Lanes.{predicateOf, governing}
-use Rattle.loads.specs.Outcomes.{answersOf, scalarsAfter, benchAfter, outcomeOf}
-use Rattle.loads.specs.Steps.{stackFails, planned, prepared, stepOf, StepPromise}
+use Rattle.steps.specs.Benches.{Lent, Bench, areasIn, areFilesAccepted, isAccepted}
+use Rattle.steps.specs.Answers.{numberOf, reportOf}
+use Rattle.steps.specs.Lanes.{predicateOf, governingBytes}
+use Rattle.steps.specs.Outcomes.{answersOf, scalarsAfter, benchAfter, outcomeOf}
+use Rattle.steps.specs.Step.{stackFails, plannedOf, preparedOf, stepOf, StepPromise}
 use Rattle.words.specs.declared.Governing.{Governing}
 use Rattle.words.specs.declared.Governing.the-variants.{None, By}
 use Rattle.words.specs.Ranges.{Governed}
-use Rattle.loads.specs.Sounds.{GovernedIn}
-use Rattle.loads.specs.declared.Rule.{Rule}
-use Rattle.loads.specs.declared.Rule.the-variants.{Always, LaneBit, ElementBit}
-use Rattle.loads.specs.declared.Answer.{Answer}
-use Rattle.loads.specs.declared.Answer.the-variants.{SetUp, Stack}
-use Rattle.loads.specs.declared.Plan.{Plan}
-use Rattle.loads.specs.declared.Planned.{Planned}
-use Rattle.loads.specs.declared.Planned.the-variants as P
-use Rattle.loads.specs.declared.StepResult.{StepResult}
-use Rattle.loads.proofs.Accepts.{length-exactly, accepted-exactly}
+use Rattle.steps.specs.Inside.{GovernedIn}
+use Rattle.steps.specs.declared.Rule.{Rule}
+use Rattle.steps.specs.declared.Rule.the-variants.{Always, LaneBit, ElementBit}
+use Rattle.steps.specs.declared.Answer.{Answer}
+use Rattle.steps.specs.declared.Answer.the-variants.{SetUp, Stack}
+use Rattle.steps.specs.declared.Plan.{Plan}
+use Rattle.steps.specs.declared.Planned.{Planned}
+use Rattle.steps.specs.declared.Planned.the-variants as P
+use Rattle.steps.specs.declared.StepResult.{StepResult}
+use Rattle.steps.proofs.Accepts.{length-exactly, accepted-exactly}
 use Rattle.plans.specs.Prepares.{plannedFor}
 use Rattle.plans.proofs.Prepares.{allowed-planned}
 use Rattle.bench.specs.Lends.{benchOf}
 use Rattle.bench.specs.Inside.{stacked, EndsAs}
-use Rattle.bench.specs.Quick.{isAlways}
-use Rattle.bench.specs.Roads.{Loaded, Targeted}
+use Rattle.bench.specs.Inside.Quick.{isAlways}
+use Rattle.bench.specs.Inside.Roads.{Loaded, Targeted}
 use Rattle.bench.proofs.Small.{slot}
 
 -- where the rule asks bits, a predicate decides over a register of n bytes
@@ -51,10 +51,10 @@ module _ (n k : ℕ) (file : List ℕ) (whole : length file ≡ 16 * k) (few : n
   decided ElementBit g h a = governs g h
 
 -- a load into a register, in the vector file that the register is lent out of
-pub targeted : (answer : ℕ → Reading) (p : Plan) (pred z : List ℕ) (n : ℕ) → p .target * n + n ≤ length z → {ys : List ℕ} {r : StepResult}
+pub target-loaded : (answer : ℕ → Reading) (p : Plan) (pred z : List ℕ) (n : ℕ) → p .target * n + n ≤ length z → {ys : List ℕ} {r : StepResult}
     → (let a = p .target * n in Loaded answer p pred (take (a + n - a) (drop a z)) r ys
     → Targeted answer p pred n z r (take a z ++ (ys ++ drop (a + n - a) (drop a z))))
-targeted answer p pred z n fits {ys} {r} s =
+target-loaded answer p pred z n fits {ys} {r} s =
     record {
       report = s .report;
       vectors = ⊎-elim
@@ -67,7 +67,7 @@ targeted answer p pred z n fits {ys} {r} s =
     a = p .target * n
 
 -- a plan, from what was found of that part
-module _ (l : Lent) (b : Bench) (p : Plan) (pred : List ℕ) (e : pred ≡ governing l p) where
+module _ (l : Lent) (b : Bench) (p : Plan) (pred : List ℕ) (e : pred ≡ governingBytes l p) where
   pub at-stack : stackFails (b .scalars) p pred ≡ true → (r : StepResult) → r ≡ record { count = 0; answer = Stack } → EndsAs (stacked p) l b r b
   unfolding EndsAs stacked
   at-stack h r q = rw (rw e at h) (rw q)
@@ -93,33 +93,33 @@ either false b = refl
 -- a word: the answer that stops it, or its plan
 module _ (l : Lent) (b : Bench) (w : ℕ) where
   abbrev Word : StepResult → Bench → Type 0
-  Word r after = EndsAs (λ l b. prepared l (b .scalars) w) l b r after
+  Word r after = EndsAs (λ l b. preparedOf l (b .scalars) w) l b r after
 
   -- an accepted length is allowed
-  pub prepares : accepted l b ≡ true → (q : Planned) → q ≡ plannedFor (l .settings) (b .scalars) w → planned (l .settings) (b .scalars) w ≡ q
+  pub prepares : isAccepted l b ≡ true → (q : Planned) → q ≡ plannedFor (l .settings) (b .scalars) w → plannedOf (l .settings) (b .scalars) w ≡ q
   prepares h q e = sym (e ∙ allowed-planned (l .settings) (b .scalars) w (length-exactly _ .1 (accepted-exactly l b .0 h .allowed)))
 
-  pub stops : (a : Answer) → planned (l .settings) (b .scalars) w ≡ P.Stop a → (r : StepResult) → r ≡ record { count = 0; answer = a } → Word r b
-  unfolding EndsAs prepared
+  pub stops : (a : Answer) → plannedOf (l .settings) (b .scalars) w ≡ P.Stop a → (r : StepResult) → r ≡ record { count = 0; answer = a } → Word r b
+  unfolding EndsAs preparedOf
   stops a h r q =
       rw (h, q) (ap (λ (after : Bench). record { report = reportOf (record { count = 0; answer = a }); lent = l; bench = after })
       (either (eqb (numberOf a) 0) b))
 
-  pub goes : (p : Plan) → planned (l .settings) (b .scalars) w ≡ P.Go p → (r : StepResult) (after : Bench) → EndsAs (stacked p) l b r after → Word r after
-  unfolding EndsAs stacked prepared
+  pub goes : (p : Plan) → plannedOf (l .settings) (b .scalars) w ≡ P.Go p → (r : StepResult) (after : Bench) → EndsAs (stacked p) l b r after → Word r after
+  unfolding EndsAs stacked preparedOf
   goes p h r after e = rw h e
 
   -- a step: "1", and then the word
   pub accepts : (files areas′ : Bool)
       → files ≡ areFilesAccepted (l .settings .vl) (length (b .vectors)) (length (l .predicates)) (length (b .scalars))
-      → areas′ ≡ areasTaken (areas l b) → accepted l b ≡ (files && areas′)
-  unfolding accepted
+      → areas′ ≡ areAreasAccepted (areasIn l b) → isAccepted l b ≡ (files && areas′)
+  unfolding isAccepted
   accepts files areas′ e h = rw (e, h)
 
-  pub steps : accepted l b ≡ true → (r : StepResult) (after : Bench) → Word r after → StepPromise l w b r l after
+  pub steps : isAccepted l b ≡ true → (r : StepResult) (after : Bench) → Word r after → StepPromise l w b r l after
   unfolding EndsAs stepOf
   steps h r after e = rw h e
 
-  pub set-up : accepted l b ≡ false → (r : StepResult) → r ≡ record { count = 0; answer = SetUp } → StepPromise l w b r l b
+  pub set-up : isAccepted l b ≡ false → (r : StepResult) → r ≡ record { count = 0; answer = SetUp } → StepPromise l w b r l b
   unfolding stepOf
   set-up h r q = rw h (rw q)

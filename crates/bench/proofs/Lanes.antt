@@ -11,13 +11,13 @@ use lib.ListN.{length, getD, take, drop}
 use Rattle.ground.specs.Choices.{if_then_else_}
 use Rattle.ground.specs.Lists.{listed, bytesAt}
 use Rattle.ground.proofs.Fills.{Filled, unfilled, one-filled, digits-filled, back-in}
-use Rattle.loads.specs.Lanes.{bitOf}
-use Rattle.loads.proofs.Walks.{many}
+use Rattle.steps.specs.Lanes.{bitOf}
+use Rattle.steps.proofs.Walks.{many}
 use Rattle.plans.proofs.Shapes.{factor-some}
 use Rattle.memory.specs.Addresses.{wrap}
-use Rattle.loads.specs.Outcomes.{extended}
+use Rattle.steps.specs.Outcomes.{extended}
 use Rattle.bench.specs.Inside.{Zeroed}
-use Rattle.bench.specs.Quick.{laneFrom, byteFrom, LanesIn, LanesOut}
+use Rattle.bench.specs.Inside.Quick.{laneFrom, byteFrom, LanesIn, LanesOut}
 use Rattle.bench.proofs.Small.{slot}
 use Rattle.bench.proofs.Many.{one, many-split, many-cong, many-none}
 

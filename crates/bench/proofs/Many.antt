@@ -9,8 +9,8 @@ use borrow.Author.Tests.{lt-ltb}
 use lib.Dec.{ltb}
 use Rattle.ground.specs.Choices.{if_then_else_}
 use Rattle.ground.specs.Lists.{anyBelow}
-use Rattle.loads.proofs.Walks.{many}
-use Rattle.loads.proofs.Counts.{many-more, many-most}
+use Rattle.steps.proofs.Walks.{many}
+use Rattle.steps.proofs.Counts.{many-more, many-most}
 
 -- 1 where a test holds
 abbrev pub one : Bool → ℕ

@@ -12,15 +12,15 @@ use Rattle.ground.specs.Sizes.{bytesOf}
 use Rattle.ground.proofs.Fills.{is-listed}
 use Rattle.ground.proofs.Laws.{never, off, any-of}
 use Rattle.memory.specs.declared.Reading.{Reading}
-use Rattle.loads.specs.Answers.{Report}
-use Rattle.loads.specs.Lanes.{wanted, asked, takes}
-use Rattle.loads.specs.Outcomes.{surveyOf, laneValue, registerByte, registerOf}
-use Rattle.loads.specs.declared.Plan.{Plan}
-use Rattle.loads.proofs.Apart.{taken-wanted}
-use Rattle.loads.proofs.Numbers.{fault-number}
-use Rattle.loads.proofs.Walks.{many, walk-clear, walk-stopped, clear-or-stopped}
+use Rattle.steps.specs.Answers.{Report}
+use Rattle.steps.specs.Lanes.{wanted, asked, laneTakes}
+use Rattle.steps.specs.Outcomes.{surveyOf, laneValue, registerByte, registerOf}
+use Rattle.steps.specs.declared.Plan.{Plan}
+use Rattle.steps.proofs.Depends.{takes-wanted}
+use Rattle.steps.proofs.Numbers.{fault-number}
+use Rattle.steps.proofs.Walks.{many, walk-clear, walk-stopped, clear-or-stopped}
 use Rattle.bench.specs.Inside.{Zeroed}
-use Rattle.bench.specs.Roads.{RanWith}
+use Rattle.bench.specs.Inside.Roads.{RanWith}
 use Rattle.bench.proofs.Many.{any-many}
 
 module _ (answer : ℕ → Reading) (p : Plan) (pred : List ℕ) (some : 0 < p .elements) (r : RanWith (surveyOf answer p pred) 0) where
@@ -39,7 +39,7 @@ module _ (answer : ℕ → Reading) (p : Plan) (pred : List ℕ) (some : 0 < p .
 
   none-lane : (l : ℕ) → laneValue answer p pred l ≡ 0
   unfolding laneValue
-  none-lane l = rw (off (takes p pred l) (λ t. let w = taken-wanted answer answer p pred some l t in none-wanted (l % p .elements) (w .0) (w .1)))
+  none-lane l = rw (off (laneTakes p pred l) (λ t. let w = takes-wanted answer answer p pred some l t in none-wanted (l % p .elements) (w .0) (w .1)))
 
   -- zeros over a whole register
   pub nothing-read : {dst dst′ : List ℕ} → Zeroed dst dst′ 0 → dst′ ≡ registerOf answer p pred (length dst)

@@ -17,15 +17,15 @@ use Rattle.ground.proofs.Fills.{Filled}
 use Rattle.ground.proofs.Laws.{never, all-at, getD-listed}
 use Rattle.ground.proofs.Sizes.{bytes-some, bytes-few, whole-lanes}
 use Rattle.memory.specs.declared.Reading.{Reading}
-use Rattle.loads.specs.Lanes.{bitOf, laneActive, wanted, takes}
-use Rattle.loads.specs.Outcomes.{laneValue}
-use Rattle.loads.specs.declared.Plan.{Plan}
-use Rattle.loads.specs.declared.Rule.{Rule}
-use Rattle.loads.specs.declared.Rule.the-variants.{Always, LaneBit, ElementBit}
-use Rattle.loads.proofs.Walks.{many}
-use Rattle.plans.specs.Shapes.{shapedBy, Shaped}
+use Rattle.steps.specs.Lanes.{bitOf, isActive, wanted, laneTakes}
+use Rattle.steps.specs.Outcomes.{laneValue}
+use Rattle.steps.specs.declared.Plan.{Plan}
+use Rattle.steps.specs.declared.Rule.{Rule}
+use Rattle.steps.specs.declared.Rule.the-variants.{Always, LaneBit, ElementBit}
+use Rattle.steps.proofs.Walks.{many}
+use Rattle.plans.specs.Inside.{shapedBy, Shaped}
 use Rattle.plans.proofs.Shapes.{factor-some}
-use Rattle.bench.specs.Quick.{LanesIn, LanesOut, isAlways, ownOf, strideOf, bitsOf, countOf, ownIn, FillIn, OwnOut}
+use Rattle.bench.specs.Inside.Quick.{LanesIn, LanesOut, isAlways, ownOf, strideOf, decidingBits, countOf, ownIn, FillIn, OwnOut}
 use Rattle.bench.proofs.Small.{slot}
 use Rattle.bench.proofs.Many.{any-many}
 
@@ -53,14 +53,14 @@ unfolding bitOf
 all-on i h = rw (getD-listed (λ j. j) 0 8 i 0 h, zero-add) at (all-at (bitOf (255 ∷ [])) (listed (λ j. j) 0 8) 0 refl refl i)
 
 -- what is told of the lanes that are filled from a stretch, k of them
-pub record Told (p : Plan) (pred : List ℕ) (k : ℕ) : Type 0 where
+pub record LanesFromStretch (p : Plan) (pred : List ℕ) (k : ℕ) : Type 0 where
   pub some : 0 < k
   pub room : k ≤ p .filled
-  pub bit : (l : ℕ) → l < k → takes p pred l ≡ bitOf (bitsOf (p .rule) pred) (l * bytesOf (p .lane))
+  pub bit : (l : ℕ) → l < k → laneTakes p pred l ≡ bitOf (decidingBits (p .rule) pred) (l * bytesOf (p .lane))
   pub element : (l : ℕ) → l < k → l % p .elements * bytesOf (p .size) ≡ l * strideOf (p .rule) (bytesOf (p .size))
   pub far : (l : ℕ) → l < k → l * strideOf (p .rule) (bytesOf (p .size)) + bytesOf (p .size) ≤ p .elements * bytesOf (p .size)
   pub again : (answer : ℕ → Reading) (l : ℕ) → l < p .filled → laneValue answer p pred (l % k) ≡ laneValue answer p pred l
-  pub count : countOf (p .rule) (many (λ l. bitOf (bitsOf (p .rule) pred) (l * bytesOf (p .lane))) 0 k) ≡ many (wanted p pred) 0 (p .elements)
+  pub count : countOf (p .rule) (many (λ l. bitOf (decidingBits (p .rule) pred) (l * bytesOf (p .lane))) 0 k) ≡ many (wanted p pred) 0 (p .elements)
 
 module _ (p : Plan) (pred : List ℕ) (some : 0 < p .elements) where
   abbrev w : ℕ
@@ -77,8 +77,8 @@ module _ (p : Plan) (pred : List ℕ) (some : 0 < p .elements) where
     one-far : (l : ℕ) → l * 0 + bytesOf (p .size) ≤ p .elements * bytesOf (p .size)
     one-far l = rw (one, mul-zero) (omega arith)
 
-    always-told : p .rule ≡ Always → 8 ≤ p .filled * w → Told p pred (1 * per)
-    unfolding takes laneValue wanted
+    always-told : p .rule ≡ Always → 8 ≤ p .filled * w → LanesFromStretch p pred (1 * per)
+    unfolding laneTakes laneValue wanted
     always-told rule least =
         let fits = chunk-fits (p .lane) (p .filled) least in
         record {
@@ -96,8 +96,8 @@ module _ (p : Plan) (pred : List ℕ) (some : 0 < p .elements) where
           count = rw (rule, one);
         }
 
-    lane-told : p .rule ≡ LaneBit → 0 < p .filled → Told p pred (p .filled)
-    unfolding takes laneActive wanted
+    lane-told : p .rule ≡ LaneBit → 0 < p .filled → LanesFromStretch p pred (p .filled)
+    unfolding laneTakes isActive wanted
     lane-told rule least =
         record {
           some = least;
@@ -114,8 +114,8 @@ module _ (p : Plan) (pred : List ℕ) (some : 0 < p .elements) where
         single false = refl
 
   -- LD1, LD1RQ and LD1RO: an element for each of the first lanes
-  element-told : p .rule ≡ ElementBit → p .elements ≤ p .filled → Told p pred (p .elements)
-  unfolding takes laneActive laneValue wanted
+  element-told : p .rule ≡ ElementBit → p .elements ≤ p .filled → LanesFromStretch p pred (p .elements)
+  unfolding laneTakes isActive laneValue wanted
   element-told rule fits =
       record {
         some = some;
@@ -129,18 +129,18 @@ module _ (p : Plan) (pred : List ℕ) (some : 0 < p .elements) where
         count = rw rule;
       }
 
-  pub told : {n : ℕ} → Shaped p n → Told p pred (ownIn p * (8 / bytesOf (p .lane)))
-  told s = go (p .rule) refl (s .shape)
+  pub lanes-from-stretch : {n : ℕ} → Shaped p n → LanesFromStretch p pred (ownIn p * (8 / bytesOf (p .lane)))
+  lanes-from-stretch s = go (p .rule) refl (s .shape)
     where
-      go : (r : Rule) → p .rule ≡ r → shapedBy r p → Told p pred (ownOf r (p .elements) (p .filled) w * per)
+      go : (r : Rule) → p .rule ≡ r → shapedBy r p → LanesFromStretch p pred (ownOf r (p .elements) (p .filled) w * per)
       go Always rule h = always-told (h .0) rule (h .1)
       go LaneBit rule h = rw (chunk-lanes (p .lane) (p .filled) (h .2)) (lane-told (h .0) rule (h .1))
       go ElementBit rule h = rw (chunk-lanes (p .lane) (p .elements) (h .1)) (element-told rule (h .0))
 
 -- ---- of a fill: what they need, and how many there are
 module _ {p : Plan} {pred s : List ℕ} {n : ℕ} (f : FillIn p pred s n) where
-  abbrev pub tells : Told p pred (ownIn p * (8 / bytesOf (p .lane)))
-  tells = told p pred (f .fit .sound .some) (f .fit .shaped)
+  abbrev pub tells : LanesFromStretch p pred (ownIn p * (8 / bytesOf (p .lane)))
+  tells = lanes-from-stretch p pred (f .fit .sound .some) (f .fit .shaped)
 
   -- as many bytes in lanes as in chunks
   pub same-bytes : ownIn p * (8 / bytesOf (p .lane)) * bytesOf (p .lane) ≡ ownIn p * 8
@@ -219,7 +219,7 @@ module _ {p : Plan} {pred s : List ℕ} {n : ℕ} (f : FillIn p pred s n) (rule 
         record { lanes-on = out .lanes-on; filled = first-chunk xs (chunk-whole (p .size)) long always-room (out .filled) }
 
 -- .. and all other
-other-bits : (r : Rule) (pred : List ℕ) → isAlways r ≡ false → bitsOf r pred ≡ pred
+other-bits : (r : Rule) (pred : List ℕ) → isAlways r ≡ false → decidingBits r pred ≡ pred
 other-bits Always pred h = never refl h
 other-bits LaneBit pred h = refl
 other-bits ElementBit pred h = refl

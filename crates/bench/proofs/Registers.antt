@@ -18,13 +18,13 @@ use Rattle.ground.proofs.Laws.{true-or-false}
 use Rattle.ground.proofs.Sizes.{bytes-some, bytes-few}
 use Rattle.memory.specs.Addresses.{wrap}
 use Rattle.memory.specs.declared.Reading.{Reading}
-use Rattle.loads.specs.Lanes.{bitOf, takes}
-use Rattle.loads.specs.Outcomes.{extended, laneValue, registerByte, registerOf}
-use Rattle.loads.specs.declared.Plan.{Plan}
+use Rattle.steps.specs.Lanes.{bitOf, laneTakes}
+use Rattle.steps.specs.Outcomes.{extended, laneValue, registerByte, registerOf}
+use Rattle.steps.specs.declared.Plan.{Plan}
 use Rattle.bench.specs.Inside.{Zeroed}
-use Rattle.bench.specs.Quick.{answersFrom, laneFrom, byteFrom, Copied, strideOf, bitsOf, countOf, ownIn, FillIn, OwnOut, FillOut}
+use Rattle.bench.specs.Inside.Quick.{answersFrom, laneFrom, byteFrom, Copied, strideOf, decidingBits, countOf, ownIn, FillIn, OwnOut, FillOut}
 use Rattle.bench.proofs.Digits.{widens}
-use Rattle.bench.proofs.Own.{Told, tells, same-bytes}
+use Rattle.bench.proofs.Own.{LanesFromStretch, tells, same-bytes}
 
 -- the lane and the byte of byte i in k lanes of w bytes, over and over
 module _ (i k w : ℕ) (some : 0 < k) (wide : 0 < w) where
@@ -35,7 +35,7 @@ module _ (i k w : ℕ) (some : 0 < k) (wide : 0 < w) where
   byte-in = ap (λ (x : ℕ). x % w) (mod-mul i some wide) ∙ digits-mod (i / w % k) (mod-lt i wide)
 
 -- a register, of the lanes that are told
-module _ (p : Plan) (pred s : List ℕ) (narrower : bytesOf (p .size) ≤ bytesOf (p .lane)) {k : ℕ} (t : Told p pred k) where
+module _ (p : Plan) (pred s : List ℕ) (narrower : bytesOf (p .size) ≤ bytesOf (p .lane)) {k : ℕ} (t : LanesFromStretch p pred k) where
   abbrev lane : ℕ
   lane = bytesOf (p .lane)
 
@@ -44,11 +44,11 @@ module _ (p : Plan) (pred s : List ℕ) (narrower : bytesOf (p .size) ≤ bytesO
 
   -- its own lanes
   own-byte : (i : ℕ) → i < k * lane
-      → byteFrom s 0 (bitsOf (p .rule) pred) (strideOf (p .rule) (bytesOf (p .size))) (p .signed) (bytesOf (p .size)) lane i ≡ registerByte answer p pred i
+      → byteFrom s 0 (decidingBits (p .rule) pred) (strideOf (p .rule) (bytesOf (p .size))) (p .signed) (bytesOf (p .size)) lane i ≡ registerByte answer p pred i
   unfolding byteFrom laneFrom registerByte laneValue answersFrom
   own-byte i h =
       let few : i / lane < k = div-lt-iff-lt-mul (bytes-some (p .lane)) .1 h in
-      rw (t .bit (i / lane) few, t .element (i / lane) few, zero-add) (go (bitOf (bitsOf (p .rule) pred) (i / lane * lane)))
+      rw (t .bit (i / lane) few, t .element (i / lane) few, zero-add) (go (bitOf (decidingBits (p .rule) pred) (i / lane * lane)))
     where
       v : ℕ
       v = bytesAt s (i / lane * strideOf (p .rule) (bytesOf (p .size))) (bytesOf (p .size))
@@ -70,11 +70,11 @@ module _ (p : Plan) (pred s : List ℕ) (narrower : bytesOf (p .size) ≤ bytesO
 
   -- .. and zeros above
   beyond : (i : ℕ) → p .filled * lane ≤ i → registerByte answer p pred i ≡ 0
-  unfolding registerByte laneValue takes
+  unfolding registerByte laneValue laneTakes
   beyond i h = rw (le-ltb (i / lane) (p .filled) (le-div-iff-mul-le (bytes-some (p .lane)) .1 h), zero-div)
 
   module _ {n : ℕ} {dst dst′ dst″ : List ℕ}
-      (own : Filled (byteFrom s 0 (bitsOf (p .rule) pred) (strideOf (p .rule) (bytesOf (p .size))) (p .signed) (bytesOf (p .size)) lane) lane n dst k)
+      (own : Filled (byteFrom s 0 (decidingBits (p .rule) pred) (strideOf (p .rule) (bytesOf (p .size))) (p .signed) (bytesOf (p .size)) lane) lane n dst k)
       (copied : Copied dst dst′ (k * lane) (p .filled * lane)) (zeroed : Zeroed dst′ dst″ (p .filled * lane)) where
     below : (i : ℕ) → i < p .filled * lane → getD dst′ i 0 ≡ registerByte answer p pred i
     below i h =

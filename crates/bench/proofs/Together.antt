@@ -18,17 +18,17 @@ use Rattle.memory.specs.Addresses.{plusOf}
 use Rattle.memory.specs.Areas.{pageBytes, Area, Areas}
 use Rattle.memory.specs.Bytes.{lookOf}
 use Rattle.memory.specs.Elements.{readingOf}
-use Rattle.memory.specs.Said.{AreaTaken, Taken, Of, in-flash, in-ram}
-use Rattle.memory.specs.Troubles.{byteOf}
+use Rattle.memory.specs.Said.{AreaAccepted, AreasAccepted, OneOf, in-flash, in-ram}
+use Rattle.memory.specs.Troubles.{byteFound}
 use Rattle.memory.specs.declared.Cell.the-variants.{Byte}
 use Rattle.memory.specs.declared.Reading.the-variants.{Value}
 use Rattle.memory.proofs.Looks.{right-byte}
 use Rattle.memory.proofs.Elements.{value-exactly}
-use Rattle.loads.specs.Lanes.{elementAt}
-use Rattle.loads.specs.Outcomes.{answersIn}
-use Rattle.loads.specs.declared.Plan.{Plan}
-use Rattle.bench.specs.Stretches.{Within, Together}
-use Rattle.bench.specs.Quick.{answersFrom}
+use Rattle.steps.specs.Lanes.{elementAt}
+use Rattle.steps.specs.Outcomes.{answersIn}
+use Rattle.steps.specs.declared.Plan.{Plan}
+use Rattle.bench.specs.Inside.Stretches.{Within, Together}
+use Rattle.bench.specs.Inside.Quick.{answersFrom}
 use Rattle.bench.proofs.Small.{slot}
 
 -- two rights that are tested together
@@ -49,8 +49,8 @@ module _ (r : Area) (a n at : ℕ) (few : n ≤ pageBytes) (place : at + r .star
   here : (i : ℕ) → a + i - r .start ≡ at + i
   here i = omega arith
 
-  pub within : Within r a n (take (at + n - at) (drop at (r .bytes)))
-  within =
+  pub stretch-within : Within r a n (take (at + n - at) (drop at (r .bytes)))
+  stretch-within =
       record {
         held = λ i l. (omega arith, omega arith);
         right =
@@ -63,12 +63,12 @@ module _ (r : Area) (a n at : ℕ) (few : n ≤ pageBytes) (place : at + r .star
       }
 
 -- .. of areas that are taken
-area-taken : (m : Areas) → Taken m → {r : Area} → Of m r → AreaTaken r
+area-taken : (m : Areas) → AreasAccepted m → {r : Area} → OneOf m r → AreaAccepted r
 area-taken m t in-flash = t .flash
 area-taken m t in-ram = t .ram
 
-pub together : (m : Areas) → Taken m → {r : Area} → Of m r → {a n : ℕ} {s : List ℕ} → Within r a n s → Together m a n s
-together m t {r} o {a} w i l =
+pub all-together : (m : Areas) → AreasAccepted m → {r : Area} → OneOf m r → {a n : ℕ} {s : List ℕ} → Within r a n s → Together m a n s
+all-together m t {r} o {a} w i l =
     let h = w .held i l in
     let e : plusOf a i ≡ a + i = omega (arith, area-taken m t o .ends) in
     rw e (right-byte m t (a + i) o h (w .right i l) ∙ ap Byte (sym (w .bytes i l)))
@@ -79,13 +79,13 @@ module _ (m : Areas) (a n : ℕ) (s : List ℕ) (w : Together m a n s) where
   reads k size h =
       value-exactly (lookOf m) (plusOf a k) size (mod-lt (a + k) (lit< tt)) (bytesAt s k size) .1 (
         λ j l. (_, found j l),
-        little-cong (λ j. getD s (k + j) 0) (λ j. byteOf (lookOf m (plusOf (plusOf a k) j))) 0 0 size (λ j l. rw (zero-add j, found j l)),
+        little-cong (λ j. getD s (k + j) 0) (λ j. byteFound (lookOf m (plusOf (plusOf a k) j))) 0 0 size (λ j l. rw (zero-add j, found j l)),
       )
     where
       found : (j : ℕ) → j < size → lookOf m (plusOf (plusOf a k) j) ≡ Byte (getD s (k + j) 0)
       found j l = let e : plusOf (plusOf a k) j ≡ plusOf a (k + j) = omega arith in rw e (w (k + j) (omega arith))
 
   -- .. and so each element of a plan
-  pub answers : (p : Plan) → p .start .0 ≡ a → n ≡ p .elements * bytesOf (p .size) → (e : ℕ) → e < p .elements → answersIn m p e ≡ answersFrom s p e
+  pub stretch-answers : (p : Plan) → p .start .0 ≡ a → n ≡ p .elements * bytesOf (p .size) → (e : ℕ) → e < p .elements → answersIn m p e ≡ answersFrom s p e
   unfolding answersIn elementAt answersFrom
-  answers p begin size e l = rw begin (reads (e * bytesOf (p .size)) (bytesOf (p .size)) (rw size (slot e (p .elements) (bytesOf (p .size)) l)))
+  stretch-answers p begin size e l = rw begin (reads (e * bytesOf (p .size)) (bytesOf (p .size)) (rw size (slot e (p .elements) (bytesOf (p .size)) l)))

@@ -12,24 +12,24 @@ use Rattle.memory.specs.declared.Fault.{Fault}
 use Rattle.memory.specs.declared.Address.{Address}
 use Rattle.memory.specs.declared.Reading.{Reading}
 use Rattle.memory.specs.declared.Reading.the-variants.{Value, Bad}
-use Rattle.loads.specs.Answers.{faultNumber, report}
-use Rattle.loads.specs.Outcomes.{walk}
+use Rattle.steps.specs.Answers.{faultNumber, reportWith}
+use Rattle.steps.specs.Outcomes.{walk}
 
 -- the elements below e are walked over, and `count` of them were read
 pub record SoFar (want : ℕ → Bool) (answer : ℕ → Reading) (n count e : ℕ) : Type 0 where
   pub within : e ≤ n
-  pub few : count ≤ e
+  pub counts : count ≤ e
   pub walks : walk answer 0 (upFrom want 0 n) ≡ walk answer count (upFrom want e (n - e))
 
 pub begun : (want : ℕ → Bool) (answer : ℕ → Reading) (n : ℕ) → SoFar want answer n 0 0
-begun want answer n = record { within = omega arith; few = omega arith; walks = rw sub-zero }
+begun want answer n = record { within = omega arith; counts = omega arith; walks = rw sub-zero }
 
 one-more : (want : ℕ → Bool) (e n : ℕ) → 0 < n → upFrom want e n ≡ (let rest = upFrom want (e + 1) (n - 1) in if want e then e ∷ rest else rest)
 one-more want e zero h = absurd (omega arith)
 one-more want e (suc n) h = rw sub-one
 
 pub finished : {want : ℕ → Bool} {answer : ℕ → Reading} {n count e : ℕ} → SoFar want answer n count e → n ≤ e
-    → report 0 count 0 0 ≡ walk answer 0 (upFrom want 0 n)
+    → reportWith 0 count 0 0 ≡ walk answer 0 (upFrom want 0 n)
 finished {n = n} {e = e} s h =
     let z : n - e ≡ 0 = omega arith in
     sym (s .walks ∙ rw z)
@@ -42,13 +42,13 @@ module _ {want : ℕ → Bool} {answer : ℕ → Reading} {n count e : ℕ} (s :
       one-more want e (n - e) (omega arith) ∙ rw k
 
   -- it is not asked for
-  pub passed : want e ≡ false → SoFar want answer n count (e + 1)
-  passed h = record { within = omega arith; few = let f = s .few in omega arith; walks = s .walks ∙ rw (next, h) }
+  pub pass-turn : want e ≡ false → SoFar want answer n count (e + 1)
+  pass-turn h = record { within = omega arith; counts = let f = s .counts in omega arith; walks = s .walks ∙ rw (next, h) }
 
   -- it is read
-  pub counted : want e ≡ true → (v : ℕ) → answer e ≡ Value v → SoFar want answer n (count + 1) (e + 1)
-  counted h v a = record { within = omega arith; few = let f = s .few in omega arith; walks = s .walks ∙ rw (next, h, a) }
+  pub read-turn : want e ≡ true → (v : ℕ) → answer e ≡ Value v → SoFar want answer n (count + 1) (e + 1)
+  read-turn h v a = record { within = omega arith; counts = let f = s .counts in omega arith; walks = s .walks ∙ rw (next, h, a) }
 
   -- it has a bad byte
-  pub stopped : want e ≡ true → (f : Fault) (a : Address) → answer e ≡ Bad f a → report (faultNumber f) count e (a .0) ≡ walk answer 0 (upFrom want 0 n)
-  stopped h f a b = sym (s .walks ∙ rw (next, h, b))
+  pub fault-turn : want e ≡ true → (f : Fault) (a : Address) → answer e ≡ Bad f a → reportWith (faultNumber f) count e (a .0) ≡ walk answer 0 (upFrom want 0 n)
+  fault-turn h f a b = sym (s .walks ∙ rw (next, h, b))

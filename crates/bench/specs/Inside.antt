@@ -1,15 +1,19 @@
--- The promises of the functions below `step`. Nothing here has to be believed: the promise of `step` is StepPromise of loads.
+-- The promises of the functions below `step`; those of the quick road stand in the files below this one. They serve proofs alone, and nothing
+-- in them has to be believed: the promise of `step` is StepPromise of steps.
+pub mod Stretches
+pub mod Quick
+pub mod Roads
 use Prim.Native.Nat.{ℕ, _≤_, _<_}
 use mathlib.Core.Path.{_≡_}
 use mathlib.Core.List.{List}
 use lib.ListN.{length, getD}
-use Rattle.loads.specs.Benches.{Lent, Bench}
-use Rattle.loads.specs.Answers.{reportOf}
-use Rattle.loads.specs.Outcomes.{Outcome}
-use Rattle.loads.specs.Steps.{Prepared, atStack, carriedOut}
-use Rattle.loads.specs.declared.Plan.{Plan}
-use Rattle.loads.specs.declared.Planned.the-variants.{Go}
-use Rattle.loads.specs.declared.StepResult.{StepResult}
+use Rattle.steps.specs.Benches.{Lent, Bench}
+use Rattle.steps.specs.Answers.{reportOf}
+use Rattle.steps.specs.Outcomes.{Outcome}
+use Rattle.steps.specs.Step.{Prepared, atStack, carriedOut}
+use Rattle.steps.specs.declared.Plan.{Plan}
+use Rattle.steps.specs.declared.Planned.the-variants.{Go}
+use Rattle.steps.specs.declared.StepResult.{StepResult}
 
 -- what a plan comes to at the stack rule
 unfoldable pub stacked : Plan → Lent → Bench → Prepared

@@ -2,8 +2,8 @@
 use Prim.Native.Nat.{ℕ}
 use mathlib.Core.List.{List}
 use Rattle.memory.specs.declared.Map.{Map}
-use Rattle.loads.specs.Benches.{Lent, Bench}
-use Rattle.loads.specs.declared.Settings.{Settings}
+use Rattle.steps.specs.Benches.{Lent, Bench}
+use Rattle.steps.specs.declared.Settings.{Settings}
 
 abbrev pub lentOf : Settings → List ℕ → Map → List ℕ → List ℕ → List ℕ → Lent
 lentOf settings predicates map flash flashRights ramRights =

@@ -1,6 +1,3 @@
--- What the contract of `step` is stated with, and what the contracts inside the crate name.
+-- What the contract of `step` is stated with; Inside, and what stands below it, serves proofs alone.
 pub mod Lends
 pub mod Inside
-pub mod Stretches
-pub mod Quick
-pub mod Roads

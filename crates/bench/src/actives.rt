@@ -1,18 +1,18 @@
 // Which lanes are active, which elements a load asks for and which lane takes one. No memory is in sight.
-use loads::Plan;
-use loads::Rule;
+use steps::Plan;
+use steps::Rule;
 use words::Governing;
 ghost use mathlib.Core.Path.{_≡_};
 ghost use Prim.Native.Nat.{_*_, _≤_};
 ghost use lib.ListN.{length};
 ghost use Rattle.ground.specs.Lists.{anyBelow};
-ghost use Rattle.loads.specs.Lanes.{predicateOf, bitOf, laneActive, wanted, letBy, takes, checksStack};
-ghost use Rattle.loads.specs.Sounds.{Sound};
-ghost use Rattle.loads.specs.Steps.{stackFails};
+ghost use Rattle.steps.specs.Lanes.{predicateOf, bitOf, isActive, wanted, mayTakeBy, laneTakes, checksStack};
+ghost use Rattle.steps.specs.Inside.{PlanInRange};
+ghost use Rattle.steps.specs.Step.{stackFails};
 
 // The bytes of the governing predicate, where there is one: a register of n bytes in a file of 16.
-pub(crate) fn governing<'p>(p: &'p [u8], n: usize, plan: Plan) -> &'p [u8]
-    requires { ⌜ Sound plan ⌝ }
+pub(crate) fn governing_bytes<'p>(p: &'p [u8], n: usize, plan: Plan) -> &'p [u8]
+    requires { ⌜ PlanInRange plan ⌝ }
     requires { ⌜ (n ≤ 32) × (length (now p) ≡ 16 * n) ⌝ }
     ensures { λ r. ⌜ r .now ≡ predicateOf n (now (p .entry)) (plan .governing) ⌝ }
 {
@@ -28,7 +28,7 @@ pub(crate) fn governing<'p>(p: &'p [u8], n: usize, plan: Plan) -> &'p [u8]
 }
 
 // Whether a bit of a predicate register is 1, lowest bit of each byte first. Past its end there is none.
-pub(crate) fn active(pred: &[u8], bit: u64) -> bool
+pub(crate) fn bit_is_set(pred: &[u8], bit: u64) -> bool
     ensures { λ r. ⌜ r ≡ bitOf (now (pred .entry)) bit ⌝ }
 {
     let at = (bit / 8) as usize;
@@ -41,16 +41,16 @@ pub(crate) fn active(pred: &[u8], bit: u64) -> bool
 // Whether lane l is active: one bit of its group decides, the lowest.
 fn lane_active(plan: Plan, pred: &[u8], l: u64) -> bool
     requires { ⌜ l ≤ 256 ⌝ }
-    ensures { λ r. ⌜ r ≡ laneActive plan (now (pred .entry)) l ⌝ }
+    ensures { λ r. ⌜ r ≡ isActive plan (now (pred .entry)) l ⌝ }
 {
     let lane = plan.lane;
-    active(pred, l * lane.bytes())
+    bit_is_set(pred, l * lane.bytes())
 }
 
 // Whether one of the first n lanes is active.
 fn some_active(plan: Plan, pred: &[u8], n: u64) -> bool
     requires { ⌜ n ≤ 256 ⌝ }
-    ensures { λ r. ⌜ r ≡ anyBelow (laneActive plan (now (pred .entry))) n ⌝ }
+    ensures { λ r. ⌜ r ≡ anyBelow (isActive plan (now (pred .entry))) n ⌝ }
 {
     let mut l: u64 = 0;
     while l < n {
@@ -64,7 +64,7 @@ fn some_active(plan: Plan, pred: &[u8], n: u64) -> bool
 
 // Whether element e is asked for.
 pub(crate) fn asks(plan: Plan, pred: &[u8], e: u64) -> bool
-    requires { ⌜ Sound plan ⌝ }
+    requires { ⌜ PlanInRange plan ⌝ }
     requires { ⌜ e ≤ 256 ⌝ }
     ensures { λ r. ⌜ r ≡ wanted plan (now (pred .entry)) e ⌝ }
 {
@@ -77,8 +77,8 @@ pub(crate) fn asks(plan: Plan, pred: &[u8], e: u64) -> bool
 }
 
 // Whether the SP check is made: for LD1R always, else where one of the lanes that it consults is active.
-fn checks(plan: Plan, pred: &[u8]) -> bool
-    requires { ⌜ Sound plan ⌝ }
+fn checks_stack(plan: Plan, pred: &[u8]) -> bool
+    requires { ⌜ PlanInRange plan ⌝ }
     ensures { λ r. ⌜ r ≡ checksStack plan (now (pred .entry)) ⌝ }
 {
     let rule = plan.rule;
@@ -91,7 +91,7 @@ fn checks(plan: Plan, pred: &[u8]) -> bool
 
 // Whether the SP check is made and fails. SP is looked at before the lanes, which are many.
 pub(crate) fn stack_fails(x: &[u64], pred: &[u8], plan: Plan) -> bool
-    requires { ⌜ Sound plan ⌝ }
+    requires { ⌜ PlanInRange plan ⌝ }
     requires { ⌜ length (now x) ≡ 33 ⌝ }
     ensures { λ r. ⌜ r ≡ stackFails (now (x .entry)) plan (now (pred .entry)) ⌝ }
 {
@@ -99,16 +99,16 @@ pub(crate) fn stack_fails(x: &[u64], pred: &[u8], plan: Plan) -> bool
         if x[31] % 16 == 0 {
             return false;
         }
-        return checks(plan, pred);
+        return checks_stack(plan, pred);
     }
     false
 }
 
 // Whether the rule lets lane l take its element.
-fn lets(plan: Plan, pred: &[u8], l: u64) -> bool
-    requires { ⌜ Sound plan ⌝ }
+fn may_take(plan: Plan, pred: &[u8], l: u64) -> bool
+    requires { ⌜ PlanInRange plan ⌝ }
     requires { ⌜ l ≤ 256 ⌝ }
-    ensures { λ r. ⌜ r ≡ letBy plan (now (pred .entry)) (plan .rule) l ⌝ }
+    ensures { λ r. ⌜ r ≡ mayTakeBy plan (now (pred .entry)) (plan .rule) l ⌝ }
 {
     let rule = plan.rule;
     match rule {
@@ -120,12 +120,12 @@ fn lets(plan: Plan, pred: &[u8], l: u64) -> bool
 
 // Whether lane l takes its element.
 pub(crate) fn takes_element(plan: Plan, pred: &[u8], l: u64) -> bool
-    requires { ⌜ Sound plan ⌝ }
+    requires { ⌜ PlanInRange plan ⌝ }
     requires { ⌜ l ≤ 256 ⌝ }
-    ensures { λ r. ⌜ r ≡ takes plan (now (pred .entry)) l ⌝ }
+    ensures { λ r. ⌜ r ≡ laneTakes plan (now (pred .entry)) l ⌝ }
 {
     if l < plan.filled {
-        return lets(plan, pred, l);
+        return may_take(plan, pred, l);
     }
     false
 }

@@ -11,8 +11,8 @@ ghost use lib.ListN.{length};
 ghost use Rattle.ground.specs.Choices.{if_then_else_};
 ghost use Rattle.ground.specs.Lists.{bytesAt};
 ghost use Rattle.memory.specs.Addresses.{wrap};
-ghost use Rattle.loads.specs.Outcomes.{extended};
-ghost use Rattle.bench.specs.Quick.{LanesIn, LanesOut};
+ghost use Rattle.steps.specs.Outcomes.{extended};
+ghost use Rattle.bench.specs.Inside.Quick.{LanesIn, LanesOut};
 
 // The number that n bytes make from a place on: `ground::number` without its tests, since all of them are there.
 fn whole(s: &[u8], at: usize, n: usize) -> u64
@@ -85,7 +85,7 @@ fn chunk(
     while l < lanes {
         let at = l * width;
         let end = at + width;
-        let on = actives::active(&bits, at as u64);
+        let on = actives::bit_is_set(&bits, at as u64);
         let v = lane_from(on, stretch, from + l * stride, signed, size);
         ground::put(&mut dst[at..end], v);
         lanes_on += one_if(on);

@@ -2,17 +2,17 @@
 use crate::actives;
 use crate::reads;
 use ground::Size;
-use loads::Plan;
 use memory::Map;
 use memory::Reading;
+use steps::Plan;
 ghost use mathlib.Core.Path.{_≡_};
 ghost use Prim.Native.Nat.{_+_, _-_, _*_, _%_, _^_, _≤_, _<_};
 ghost use lib.ListN.{length};
 ghost use Rattle.ground.specs.Sizes.{bytesOf};
 ghost use Rattle.memory.specs.Addresses.{wrap};
 ghost use Rattle.memory.specs.Areas.{areasOf};
-ghost use Rattle.loads.specs.Outcomes.{answersIn, valueOf, extended, laneValue, registerOf, baseAfter, scalarsAfter};
-ghost use Rattle.loads.specs.Sounds.{Sound};
+ghost use Rattle.steps.specs.Outcomes.{answersIn, valueOf, extended, laneValue, registerOf, baseAfter, scalarsAfter};
+ghost use Rattle.steps.specs.Inside.{PlanInRange};
 ghost use Rattle.bench.specs.Inside.{Zeroed};
 
 // The largest number of a size.
@@ -70,7 +70,7 @@ fn lane_value(
     plan: Plan,
     l: u64,
 ) -> u64
-    requires { ⌜ Sound plan ⌝ }
+    requires { ⌜ PlanInRange plan ⌝ }
     requires { ⌜ l ≤ 256 ⌝ }
     ensures { λ r. ⌜ r ≡ wrap (laneValue
         (answersIn (areasOf map (now (flash .entry)) (now («flash_rights» .entry)) (now (ram .entry)) (now («ram_rights» .entry))) plan)
@@ -104,7 +104,7 @@ pub(crate) fn fill(
     pred: &[u8],
     plan: Plan,
 )
-    requires { ⌜ Sound plan ⌝ }
+    requires { ⌜ PlanInRange plan ⌝ }
     requires { ⌜ (length (now dst) ≤ 256) × (length (now dst) % 8 ≡ 0) ⌝ }
     ensures { λ _. ⌜ now (dst .exit) ≡ registerOf
         (answersIn (areasOf map (now (flash .entry)) (now («flash_rights» .entry)) (now (ram .entry)) (now («ram_rights» .entry))) plan)
@@ -157,7 +157,7 @@ fn base(x: &mut [u64], plan: Plan)
 
 // Writes the base back and moves PC on. The base is never PC.
 pub(crate) fn scalars(x: &mut [u64], plan: Plan)
-    requires { ⌜ Sound plan ⌝ }
+    requires { ⌜ PlanInRange plan ⌝ }
     requires { ⌜ length (now x) ≡ 33 ⌝ }
     ensures { λ _. ⌜ now (x .exit) ≡ scalarsAfter plan (now (x .entry)) ⌝ }
 {

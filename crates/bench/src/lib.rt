@@ -8,20 +8,20 @@ mod results;
 mod roads;
 mod stretches;
 
-use loads::Answer;
-use loads::Plan;
-use loads::Planned;
-use loads::Settings;
-use loads::StepResult;
 use memory::Map;
 use results::ended;
+use steps::Answer;
+use steps::Plan;
+use steps::Planned;
+use steps::Settings;
+use steps::StepResult;
 ghost use mathlib.Core.Path.{_≡_};
 ghost use mathlib.Core.Bool.{true};
 ghost use Prim.Native.Nat.{_/_};
-ghost use Rattle.loads.specs.Benches.{areFilesAccepted, accepted};
-ghost use Rattle.loads.specs.Sounds.{Sound};
-ghost use Rattle.loads.specs.Steps.{prepared, StepPromise};
-ghost use Rattle.plans.specs.Shapes.{Shaped};
+ghost use Rattle.steps.specs.Benches.{areFilesAccepted, isAccepted};
+ghost use Rattle.steps.specs.Inside.{PlanInRange};
+ghost use Rattle.steps.specs.Step.{preparedOf, StepPromise};
+ghost use Rattle.plans.specs.Inside.{Shaped};
 ghost use Rattle.bench.specs.Lends.{lentOf, benchOf};
 ghost use Rattle.bench.specs.Inside.{stacked, EndsAs};
 
@@ -29,7 +29,7 @@ ghost use Rattle.bench.specs.Inside.{stacked, EndsAs};
 fn files_accepted(vl: u64, z: usize, p: usize, x: usize) -> bool
     ensures { λ r. ⌜ r ≡ areFilesAccepted vl z p x ⌝ }
 {
-    if loads::allowed(vl) {
+    if steps::allowed(vl) {
         let z_asked = 32 * (vl / 8);
         let p_asked = 16 * (vl / 64);
         return (z as u64 == z_asked) & (p as u64 == p_asked) & (x == 33);
@@ -39,7 +39,7 @@ fn files_accepted(vl: u64, z: usize, p: usize, x: usize) -> bool
 
 // Carries a plan out: the stack rule, then the load, and where that ran the base and PC. The governing predicate's part is taken here,
 // once.
-fn carry<'a>(
+fn carry_out<'a>(
     z: &mut [u8],
     x: &mut [u64],
     ram: &'a [u8],
@@ -51,14 +51,14 @@ fn carry<'a>(
     ram_rights: &[u8],
     plan: Plan,
 ) -> StepResult
-    requires { ⌜ accepted (lentOf settings (now p) map (now flash) (now «flash_rights») (now «ram_rights»)) (benchOf (now z) (now x) (now ram)) ≡ true ⌝ }
-    requires { ⌜ (Sound plan) × Shaped plan (settings .vl / 8) ⌝ }
+    requires { ⌜ isAccepted (lentOf settings (now p) map (now flash) (now «flash_rights») (now «ram_rights»)) (benchOf (now z) (now x) (now ram)) ≡ true ⌝ }
+    requires { ⌜ (PlanInRange plan) × Shaped plan (settings .vl / 8) ⌝ }
     ensures { λ r. ⌜ EndsAs (stacked plan)
         (lentOf settings (now (p .entry)) map (now (flash .entry)) (now («flash_rights» .entry)) (now («ram_rights» .entry)))
         (benchOf (now (z .entry)) (now (x .entry)) (now (ram .entry))) r (benchOf (now (z .exit)) (now (x .exit)) (now (ram .entry))) ⌝ }
 {
     let k = (settings.vl / 64) as usize;
-    let pred = actives::governing(p, k, plan);
+    let pred = actives::governing_bytes(p, k, plan);
     if actives::stack_fails(x, pred, plan) {
         return ended(0, Answer::Stack);
     }
@@ -85,15 +85,15 @@ fn accepted_step<'a>(
     flash_rights: &[u8],
     ram_rights: &[u8],
 ) -> StepResult
-    requires { ⌜ accepted (lentOf settings (now p) map (now flash) (now «flash_rights») (now «ram_rights»)) (benchOf (now z) (now x) (now ram)) ≡ true ⌝ }
-    ensures { λ r. ⌜ EndsAs (λ l b. prepared l (b .scalars) word)
+    requires { ⌜ isAccepted (lentOf settings (now p) map (now flash) (now «flash_rights») (now «ram_rights»)) (benchOf (now z) (now x) (now ram)) ≡ true ⌝ }
+    ensures { λ r. ⌜ EndsAs (λ l b. preparedOf l (b .scalars) word)
         (lentOf settings (now (p .entry)) map (now (flash .entry)) (now («flash_rights» .entry)) (now («ram_rights» .entry)))
         (benchOf (now (z .entry)) (now (x .entry)) (now (ram .entry))) r (benchOf (now (z .exit)) (now (x .exit)) (now (ram .entry))) ⌝ }
 {
     match plans::prepare(settings, x, word) {
         Planned::Stop(answer) => ended(0, answer),
         Planned::Go(plan) => {
-            carry(
+            carry_out(
                 z,
                 x,
                 ram,
@@ -126,7 +126,7 @@ pub fn step<'a>(
         StepPromise l word (benchOf (now (z .entry)) (now (x .entry)) (now (ram .entry))) r l (benchOf (now (z .exit)) (now (x .exit)) (now (ram .entry)))) ⌝ }
 {
     if files_accepted(settings.vl, z.len(), p.len(), x.len()) {
-        if memory::taken(map, flash, flash_rights, ram, ram_rights) {
+        if memory::areas_accepted(map, flash, flash_rights, ram, ram_rights) {
             return accepted_step(
                 z,
                 x,

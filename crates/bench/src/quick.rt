@@ -2,13 +2,13 @@
 // counted, in one go.
 use crate::chunks;
 use crate::fills;
-use loads::Plan;
-use loads::Rule;
+use steps::Plan;
+use steps::Rule;
 ghost use mathlib.Core.Path.{_≡_};
 ghost use Prim.Native.Nat.{_≤_, _<_};
 ghost use lib.ListN.{length};
 ghost use Rattle.ground.specs.Sizes.{bytesOf};
-ghost use Rattle.bench.specs.Quick.{Copied, isAlways, ownOf, strideOf, countOf, ownIn, OwnOut, FillIn, FillOut};
+ghost use Rattle.bench.specs.Inside.Quick.{Copied, isAlways, ownOf, strideOf, countOf, ownIn, OwnOut, FillIn, FillOut};
 
 // Repeats the first bytes up to an end.
 fn copies(dst: &mut [u8], block: usize, end: usize)

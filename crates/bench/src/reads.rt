@@ -1,19 +1,19 @@
 // What memory says of the elements that a load asks for.
 use crate::actives;
 use crate::results::ended;
-use loads::Answer;
-use loads::Plan;
-use loads::StepResult;
 use memory::Address;
 use memory::Map;
 use memory::Reading;
+use steps::Answer;
+use steps::Plan;
+use steps::StepResult;
 ghost use mathlib.Core.Path.{_≡_};
 ghost use Prim.Native.Nat.{_≤_};
 ghost use Rattle.memory.specs.Areas.{areasOf};
-ghost use Rattle.loads.specs.Answers.{reportOf};
-ghost use Rattle.loads.specs.Lanes.{elementAt};
-ghost use Rattle.loads.specs.Outcomes.{answersIn, surveyOf};
-ghost use Rattle.loads.specs.Sounds.{Sound};
+ghost use Rattle.steps.specs.Answers.{reportOf};
+ghost use Rattle.steps.specs.Lanes.{elementAt};
+ghost use Rattle.steps.specs.Outcomes.{answersIn, surveyOf};
+ghost use Rattle.steps.specs.Inside.{PlanInRange};
 
 // Where element e lies.
 fn place(plan: Plan, e: u64) -> Address
@@ -53,7 +53,7 @@ pub(crate) fn survey(
     pred: &[u8],
     plan: Plan,
 ) -> StepResult
-    requires { ⌜ Sound plan ⌝ }
+    requires { ⌜ PlanInRange plan ⌝ }
     ensures { λ r. ⌜ reportOf r ≡ surveyOf
         (answersIn (areasOf map (now (flash .entry)) (now («flash_rights» .entry)) (now (ram .entry)) (now («ram_rights» .entry))) plan)
         plan (now (pred .entry)) ⌝ }

@@ -1,8 +1,8 @@
 // The result of a step.
-use loads::Answer;
-use loads::StepResult;
+use steps::Answer;
+use steps::StepResult;
 ghost use mathlib.Core.Path.{_≡_};
-ghost use Rattle.loads.specs.declared.StepResult.{StepResult};
+ghost use Rattle.steps.specs.declared.StepResult.{StepResult};
 
 // How a step ends: so many elements read, and the answer.
 pub(crate) fn ended(count: u64, answer: Answer) -> StepResult

@@ -5,19 +5,19 @@ use crate::quick;
 use crate::reads;
 use crate::results::ended;
 use crate::stretches;
-use loads::Answer;
-use loads::Plan;
-use loads::StepResult;
 use memory::Map;
+use steps::Answer;
+use steps::Plan;
+use steps::StepResult;
 ghost use mathlib.Core.Path.{_≡_};
 ghost use Prim.Native.Nat.{_*_, _%_, _≤_};
 ghost use lib.ListN.{length};
 ghost use Rattle.memory.specs.Areas.{areasOf};
-ghost use Rattle.memory.specs.Said.{Taken};
-ghost use Rattle.loads.specs.Outcomes.{answersIn, surveyOf, registerOf};
-ghost use Rattle.loads.specs.Sounds.{Sound};
-ghost use Rattle.bench.specs.Quick.{Fit};
-ghost use Rattle.bench.specs.Roads.{Loaded, Targeted, RanWith};
+ghost use Rattle.memory.specs.Said.{AreasAccepted};
+ghost use Rattle.steps.specs.Outcomes.{answersIn, surveyOf, registerOf};
+ghost use Rattle.steps.specs.Inside.{PlanInRange};
+ghost use Rattle.bench.specs.Inside.Quick.{FillFits};
+ghost use Rattle.bench.specs.Inside.Roads.{Loaded, Targeted, RanWith};
 
 // What a load that ran writes, element by element: where it read nothing, zeros.
 fn written(
@@ -31,7 +31,7 @@ fn written(
     plan: Plan,
     count: u64,
 )
-    requires { ⌜ Sound plan ⌝ }
+    requires { ⌜ PlanInRange plan ⌝ }
     requires { ⌜ (length (now dst) ≤ 256) × (length (now dst) % 8 ≡ 0) ⌝ }
     requires { ⌜ RanWith (surveyOf (answersIn (areasOf map (now flash) (now «flash_rights») (now ram) (now «ram_rights»)) plan) plan (now pred)) count ⌝ }
     ensures { λ _. ⌜ now (dst .exit) ≡ registerOf
@@ -56,7 +56,7 @@ fn one_by_one(
     pred: &[u8],
     plan: Plan,
 ) -> StepResult
-    requires { ⌜ Sound plan ⌝ }
+    requires { ⌜ PlanInRange plan ⌝ }
     requires { ⌜ (length (now dst) ≤ 256) × (length (now dst) % 8 ≡ 0) ⌝ }
     ensures { λ r. ⌜ Loaded
         (answersIn (areasOf map (now (flash .entry)) (now («flash_rights» .entry)) (now (ram .entry)) (now («ram_rights» .entry))) plan)
@@ -92,8 +92,8 @@ fn load<'a>(
     pred: &[u8],
     plan: Plan,
 ) -> StepResult
-    requires { ⌜ Taken (areasOf map (now flash) (now «flash_rights») (now ram) (now «ram_rights»)) ⌝ }
-    requires { ⌜ Fit plan (now pred) (length (now dst)) ⌝ }
+    requires { ⌜ AreasAccepted (areasOf map (now flash) (now «flash_rights») (now ram) (now «ram_rights»)) ⌝ }
+    requires { ⌜ FillFits plan (now pred) (length (now dst)) ⌝ }
     ensures { λ r. ⌜ Loaded
         (answersIn (areasOf map (now (flash .entry)) (now («flash_rights» .entry)) (now (ram .entry)) (now («ram_rights» .entry))) plan)
         plan (now (pred .entry)) (now (dst .entry)) r (now (dst .exit)) ⌝ }
@@ -128,8 +128,8 @@ pub(crate) fn target<'a>(
     pred: &[u8],
     plan: Plan,
 ) -> StepResult
-    requires { ⌜ Taken (areasOf map (now flash) (now «flash_rights») (now ram) (now «ram_rights»)) ⌝ }
-    requires { ⌜ Fit plan (now pred) n ⌝ }
+    requires { ⌜ AreasAccepted (areasOf map (now flash) (now «flash_rights») (now ram) (now «ram_rights»)) ⌝ }
+    requires { ⌜ FillFits plan (now pred) n ⌝ }
     requires { ⌜ length (now z) ≡ 32 * n ⌝ }
     ensures { λ r. ⌜ Targeted
         (answersIn (areasOf map (now (flash .entry)) (now («flash_rights» .entry)) (now (ram .entry)) (now («ram_rights» .entry))) plan)

@@ -6,13 +6,13 @@ ghost use mathlib.Core.Path.{_≡_};
 ghost use Prim.Native.Nat.{_≤_, _<_};
 ghost use lib.ListN.{length};
 ghost use Rattle.memory.specs.Areas.{pageBytes, areasOf};
-ghost use Rattle.memory.specs.Said.{AreaTaken, Taken};
-ghost use Rattle.bench.specs.Stretches.{areaOf, Within, Together};
+ghost use Rattle.memory.specs.Said.{AreaAccepted, AreasAccepted};
+ghost use Rattle.bench.specs.Inside.Stretches.{areaOf, Within, Together};
 
 // The n bytes from an address on as a part of an area, or an empty part where they are not known to lie in it together. They are no more
 // than a page, so that their first and their last byte touch every page that they touch.
 fn in_area<'a>(start: Address, bytes: &'a [u8], rights: &[u8], a: Address, n: usize) -> &'a [u8]
-    requires { ⌜ AreaTaken (areaOf start (now bytes) (now rights)) ⌝ }
+    requires { ⌜ AreaAccepted (areaOf start (now bytes) (now rights)) ⌝ }
     requires { ⌜ (0 < n) × (n ≤ pageBytes) ⌝ }
     ensures { λ s. ⌜ (length (s .now) ≡ n → Within (areaOf start (now (bytes .entry)) (now (rights .entry))) (a .0) n (s .now)) ⌝ }
 {
@@ -41,7 +41,7 @@ pub(crate) fn find<'a>(
     a: Address,
     n: usize,
 ) -> &'a [u8]
-    requires { ⌜ Taken (areasOf map (now flash) (now «flash_rights») (now ram) (now «ram_rights»)) ⌝ }
+    requires { ⌜ AreasAccepted (areasOf map (now flash) (now «flash_rights») (now ram) (now «ram_rights»)) ⌝ }
     requires { ⌜ (0 < n) × (n ≤ pageBytes) ⌝ }
     ensures { λ s. ⌜ (length (s .now) ≡ n → Together
         (areasOf map (now (flash .entry)) (now («flash_rights» .entry)) (now (ram .entry)) (now («ram_rights» .entry)))

@@ -4,23 +4,23 @@ use mathlib.Core.List.{List}
 use Prim.Native.Nat.{ℕ, _+_, _-_}
 use native.Mathlib.Nat.{add-sub-cancel-left}
 use lib.ListN.{take, drop}
-use Rattle.loads.specs.Steps.{StepPromise}
-use Rattle.loads.specs.declared.StepResult.{StepResult}
+use Rattle.steps.specs.Step.{StepPromise}
+use Rattle.steps.specs.declared.StepResult.{StepResult}
 use Rattle.bench.specs.Lends.{lentOf, benchOf}
-use Rattle.cases.specs.Parts.{part, predicatesAt, flashAt, flashRightsAt, ramAt, ramRightsAt, scalarsIn, lentIn, benchIn}
+use Rattle.cases.specs.Parts.{bytesFrom, predicatesAt, flashAt, flashRightsAt, ramAt, ramRightsAt, scalarsIn, lentIn, benchIn}
 use Rattle.cases.specs.declared.heads.Case.{Case}
 
 -- a part of a slice, from a place to n bytes on
-pub cut : (s : List ℕ) (at n : ℕ) → take (at + n - at) (drop at s) ≡ part s at n
+pub cut : (s : List ℕ) (at n : ℕ) → take (at + n - at) (drop at s) ≡ bytesFrom s at n
 cut s at n = rw add-sub-cancel-left
 
 -- a step of the parts is a step of what the case lends
 pub as-lent : (s : List ℕ) (c : Case) {vectors scalars ram predicates flash flashRights ramRights : List ℕ}
-    → vectors ≡ part s 96 (c .vectors) → scalars ≡ scalarsIn s c → ram ≡ part s (ramAt c) (c .ram) → predicates ≡ part s (predicatesAt c) (c .predicates)
-    → flash ≡ part s (flashAt c) (c .flash) → flashRights ≡ part s (flashRightsAt c) (c .«flash_rights») → ramRights ≡ part s (ramRightsAt c) (c .«ram_rights»)
+    → vectors ≡ bytesFrom s 96 (c .vectors) → scalars ≡ scalarsIn s c → ram ≡ bytesFrom s (ramAt c) (c .ram) → predicates ≡ bytesFrom s (predicatesAt c) (c .predicates)
+    → flash ≡ bytesFrom s (flashAt c) (c .flash) → flashRights ≡ bytesFrom s (flashRightsAt c) (c .«flash_rights») → ramRights ≡ bytesFrom s (ramRightsAt c) (c .«ram_rights»)
     → (r : StepResult) {z x : List ℕ}
     → (let l = lentOf (c .settings) predicates (c .map) flash flashRights ramRights in
     StepPromise l (c .word) (benchOf vectors scalars ram) r l (benchOf z x ram))
-    → (let l = lentIn s c in StepPromise l (c .word) (benchIn s c) r l (benchOf z x (part s (ramAt c) (c .ram))))
+    → (let l = lentIn s c in StepPromise l (c .word) (benchIn s c) r l (benchOf z x (bytesFrom s (ramAt c) (c .ram))))
 unfolding lentIn benchIn
 as-lent s c e₁ e₂ e₃ e₄ e₅ e₆ e₇ r h = rw (e₁, e₂, e₃, e₄, e₅, e₆, e₇) at h

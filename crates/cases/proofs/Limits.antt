@@ -75,5 +75,5 @@ abbrev pub Longest : Opened → Type 0
 Longest (Broken why) = Unit {0}
 Longest (Holds c n) = (n ≤ 333024) × (outcomeLength c ≤ 66585)
 
-pub longest : (s : List ℕ) → Longest (openedOf s)
-longest = opened Longest (λ why. tt) (λ c b. (omega arith, omega arith))
+pub longest-case : (s : List ℕ) → Longest (openedOf s)
+longest-case = opened Longest (λ why. tt) (λ c b. (omega arith, omega arith))

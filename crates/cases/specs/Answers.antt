@@ -5,7 +5,7 @@ use mathlib.Core.List.{List, _++_}
 use lib.Dec.{ltb}
 use lib.ListN.{length, drop}
 use Rattle.ground.specs.Choices.{if_then_else_}
-use Rattle.loads.specs.Steps.{stepOf}
+use Rattle.steps.specs.Step.{stepOf}
 use Rattle.cases.specs.Heads.{openedOf}
 use Rattle.cases.specs.Parts.{lentIn, benchIn, caseBytes}
 use Rattle.cases.specs.Outcomes.{outcomeBytes, outcomeLength}
@@ -35,9 +35,9 @@ abbrev pub onOpened : List ℕ → List ℕ → Opened → After
 onOpened s out (Broken why) = record { answer = Not why; out = out }
 onOpened s out (Holds c n) = onCase s out c
 
-unfoldable pub answered : List ℕ → List ℕ → After
-answered s out = onOpened s out (openedOf s)
+unfoldable pub afterCase : List ℕ → List ℕ → After
+afterCase s out = onOpened s out (openedOf s)
 
 -- what `answer` promises of its result and of what it leaves
 abbrev pub AnswerPromise : List ℕ → List ℕ → Answered → List ℕ → Type 0
-AnswerPromise s out r out′ = _≡_ {A = After} (record { answer = r; out = out′ }) (answered s out)
+AnswerPromise s out r out′ = _≡_ {A = After} (record { answer = r; out = out′ }) (afterCase s out)

@@ -1,5 +1,5 @@
--- What the functions below `answer` are given of a case that bytes open with. Nothing here has to be believed: the promise of `answer` is
--- AnswerPromise.
+-- What the functions below `answer` are given of a case that bytes open with. This file serves proofs alone, and nothing in it has to be
+-- believed: the promise of `answer` is AnswerPromise.
 use Prim.Native.Nat.{_≤_}
 use mathlib.Core.Path.{_≡_}
 use Rattle.cases.specs.Parts.{caseBytes}

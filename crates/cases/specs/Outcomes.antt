@@ -3,8 +3,8 @@ use Prim.Native.Nat.{ℕ, _+_, _*_, _/_, _%_, _^_}
 use mathlib.Core.List.{List, [], _∷_, _++_}
 use lib.ListN.{length, getD}
 use Rattle.ground.specs.Lists.{listed}
-use Rattle.loads.specs.Answers.{Report}
-use Rattle.loads.specs.Outcomes.{Outcome}
+use Rattle.steps.specs.Answers.{Report}
+use Rattle.steps.specs.Outcomes.{Outcome}
 use Rattle.cases.specs.declared.heads.Case.{Case}
 
 -- numbers of 8 bytes one after the other: byte i is byte i mod 8 of number i div 8

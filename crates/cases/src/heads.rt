@@ -1,8 +1,8 @@
 // The head of a case, in the byte format of docs/CASES.md: what it says, and what is wrong with it.
 use ground::number;
-use loads::Settings;
 use memory::Address;
 use memory::Map;
+use steps::Settings;
 ghost use mathlib.Core.Path.{_≡_};
 ghost use Rattle.cases.specs.Heads.{headOf, limited, openedOf};
 

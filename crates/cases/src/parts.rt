@@ -1,16 +1,16 @@
 // What lies behind a head: its parts lent to a step, and the outcome written.
 use crate::heads::Case;
 use ground::number;
-use loads::StepResult;
+use steps::StepResult;
 ghost use mathlib.Core.Path.{_≡_};
 ghost use Prim.Native.Nat.{_+_, _*_, _≤_};
 ghost use mathlib.Core.List.{_++_};
 ghost use lib.ListN.{length, drop};
 ghost use Rattle.ground.specs.Lists.{listed, bytesAt};
-ghost use Rattle.loads.specs.Answers.{reportOf};
-ghost use Rattle.loads.specs.Steps.{StepPromise};
+ghost use Rattle.steps.specs.Answers.{reportOf};
+ghost use Rattle.steps.specs.Step.{StepPromise};
 ghost use Rattle.bench.specs.Lends.{benchOf};
-ghost use Rattle.cases.specs.Parts.{part, ramAt, caseBytes, lentIn, benchIn};
+ghost use Rattle.cases.specs.Parts.{bytesFrom, ramAt, caseBytes, lentIn, benchIn};
 ghost use Rattle.cases.specs.Outcomes.{eights, reportBytes, outcomeLength};
 ghost use Rattle.cases.specs.Answers.{outcomeIn};
 
@@ -47,7 +47,7 @@ fn stepped(z: &mut [u8], x: &mut [u64], s: &[u8], case: Case) -> StepResult
     requires { ⌜ (length (now z) ≡ case .vectors) × (length (now x) ≡ case .scalars) × (caseBytes case ≤ length (now s)) ⌝ }
     ensures { λ r. ⌜ (let l = lentIn (now (s .entry)) case in
         StepPromise l (case .word) (benchIn (now (s .entry)) case) r l
-        (benchOf (now (z .exit)) (now (x .exit)) (part (now (s .entry)) (ramAt case) (case .ram)))) ⌝ }
+        (benchOf (now (z .exit)) (now (x .exit)) (bytesFrom (now (s .entry)) (ramAt case) (case .ram)))) ⌝ }
 {
     let predicates_at = 96 + case.vectors;
     let scalars_at = predicates_at + case.predicates;
@@ -85,7 +85,7 @@ fn put_report(dst: &mut [u8], result: StepResult)
 
 // Answers a case: its outcome over the first bytes of what is lent for it. z is stepped where it lies in the outcome, so that
 // the vector file is moved once; the scalars are stepped in x.
-fn outcome(out: &mut [u8], x: &mut [u64], s: &[u8], case: Case)
+fn put_outcome(out: &mut [u8], x: &mut [u64], s: &[u8], case: Case)
     requires { ⌜ (length (now x) ≡ case .scalars) × (outcomeLength case ≤ length (now out)) × (caseBytes case ≤ length (now s)) ⌝ }
     ensures { λ _. ⌜ now (out .exit) ≡ outcomeIn (now (s .entry)) case (now (out .entry)) ⌝ }
 {
@@ -103,12 +103,12 @@ fn scalars() -> [u64; 128]
     [0; 128]
 }
 
-// Answers a case as `outcome` does, with room for its scalars.
+// Answers a case as `put_outcome` does, with room for its scalars.
 pub(crate) fn written(out: &mut [u8], s: &[u8], case: Case)
     requires { ⌜ (case .scalars ≤ 128) × (outcomeLength case ≤ length (now out)) × (caseBytes case ≤ length (now s)) ⌝ }
     ensures { λ _. ⌜ now (out .exit) ≡ outcomeIn (now (s .entry)) case (now (out .entry)) ⌝ }
 {
     let mut x = scalars();
     let n = case.scalars;
-    outcome(out, &mut x[..n], s, case);
+    put_outcome(out, &mut x[..n], s, case);
 }

@@ -45,8 +45,8 @@ and-right false b h = cc
 pub and-other : (a b : Bool) → (a && b) ≡ false → a ≡ true → b ≡ false
 and-other a b h k = rw k at h
 
-pub both : (a b : Bool) → a ≡ true → b ≡ true → (a && b) ≡ true
-both a b h k = rw (h, k)
+pub and-both : (a b : Bool) → a ≡ true → b ≡ true → (a && b) ≡ true
+and-both a b h k = rw (h, k)
 
 pub or-cases {ℓ} : {A : Type ℓ} (a b : Bool) → (a || b) ≡ true → (a ≡ true → A) → (b ≡ true → A) → A
 or-cases true b h f g = f refl
@@ -92,7 +92,7 @@ all-hold (t ∷ ts) h = go t ts (h .0) (h .1)
   where
     go : (t : Bool) (ts : List Bool) → t ≡ true → Each ts → andAll t ts ≡ true
     go t [] p q = p
-    go t (u ∷ us) p q = go (t && u) us (both t u p (q .0)) (q .1)
+    go t (u ∷ us) p q = go (t && u) us (and-both t u p (q .0)) (q .1)
 
 -- a fact of every row of a table
 abbrev pub EachRow : {A : Type 0} → (A → Type 0) → List (Row A) → Type 0

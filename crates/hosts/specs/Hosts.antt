@@ -3,12 +3,12 @@ use Prim.Native.Nat.{ℕ}
 use mathlib.Core.Path.{_≡_}
 use mathlib.Core.Bool.{Bool}
 use Rattle.memory.specs.declared.Map.{Map}
-use Rattle.loads.specs.declared.Settings.{Settings}
-use Rattle.loads.specs.Benches.{Lent, Bench}
-use Rattle.loads.specs.Answers.{Report, report}
-use Rattle.loads.specs.Outcomes.{Outcome}
-use Rattle.loads.specs.Steps.{stepOf}
-use Rattle.hosts.specs.declared.Told.{Told}
+use Rattle.steps.specs.declared.Settings.{Settings}
+use Rattle.steps.specs.Benches.{Lent, Bench}
+use Rattle.steps.specs.Answers.{Report, reportWith}
+use Rattle.steps.specs.Outcomes.{Outcome}
+use Rattle.steps.specs.Step.{stepOf}
+use Rattle.hosts.specs.declared.StepNumbers.{StepNumbers}
 
 abbrev pub settingsOf : ℕ → Bool → Bool → Bool → Settings
 settingsOf vl simd sve f64mm = record { vl = vl; simd = simd; sve = sve; f64mm = f64mm }
@@ -16,9 +16,9 @@ settingsOf vl simd sve f64mm = record { vl = vl; simd = simd; sve = sve; f64mm =
 abbrev pub mapOf : ℕ → ℕ → Map
 mapOf flash ram = record { flash = record { 0 = flash }; ram = record { 0 = ram } }
 
-abbrev pub reportIn : Told → Report
-reportIn t = report (t .number) (t .count) (t .element) (t .address)
+abbrev pub reportIn : StepNumbers → Report
+reportIn t = reportWith (t .number) (t .count) (t .element) (t .address)
 
 -- what a host is promised of one step: the numbers it is told, with the whole bench as it is left, are those of the definition
-abbrev pub HostPromise : Lent → ℕ → Bench → Told → Lent → Bench → Type 0
+abbrev pub HostPromise : Lent → ℕ → Bench → StepNumbers → Lent → Bench → Type 0
 HostPromise l w b t l′ b′ = _≡_ {A = Outcome} (record { report = reportIn t; lent = l′; bench = b′ }) (stepOf l w b)

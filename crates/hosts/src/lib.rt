@@ -1,17 +1,17 @@
 // One step for a host in Rust or C, which owns the files and the areas: `bench::step` on numbers and slices, told in the scope of
 // work's numbers.
-use loads::Settings;
-use loads::StepResult;
 use memory::Address;
 use memory::Map;
+use steps::Settings;
+use steps::StepResult;
 ghost use mathlib.Core.Path.{_≡_};
-ghost use Rattle.loads.specs.Answers.{reportOf};
+ghost use Rattle.steps.specs.Answers.{reportOf};
 ghost use Rattle.bench.specs.Lends.{lentOf, benchOf};
 ghost use Rattle.hosts.specs.Hosts.{settingsOf, mapOf, reportIn, HostPromise};
 
 // What a step tells a host: the answer's number, the count of element reads, and the element and address of a fault.
 #[repr(C)]
-pub struct Told {
+pub struct StepNumbers {
     pub number: u64,
     pub count: u64,
     pub element: u64,
@@ -19,11 +19,11 @@ pub struct Told {
 }
 
 // A result in the scope of work's numbers.
-fn numbered(result: StepResult) -> Told
+fn numbered(result: StepResult) -> StepNumbers
     ensures { λ r. ⌜ reportIn r ≡ reportOf result ⌝ }
 {
     let answer = result.answer;
-    Told {
+    StepNumbers {
         number: answer.number(),
         count: result.count,
         element: answer.element(),
@@ -48,7 +48,7 @@ pub extern "C" fn kjolvast_step<'a>(
     flash: &'a [u8],
     flash_rights: &[u8],
     ram_rights: &[u8],
-) -> Told
+) -> StepNumbers
     ensures { λ r. ⌜ (let l = lentOf (settingsOf vl simd sve f64mm) (now (p .entry))
         (mapOf «flash_start» «ram_start») (now (flash .entry)) (now («flash_rights» .entry)) (now («ram_rights» .entry)) in
         HostPromise l word (benchOf (now (z .entry)) (now (x .entry)) (now (ram .entry)))

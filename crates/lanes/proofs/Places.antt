@@ -9,12 +9,12 @@ use Rattle.ground.proofs.Sizes.{register-room}
 use Rattle.ground.proofs.Turns.{in-bits}
 use Rattle.lanes.specs.Lanes.{laneAt}
 use Rattle.lanes.specs.Said.{There}
-use Rattle.lanes.specs.Inner.{Fitting}
+use Rattle.lanes.specs.Inside.{Fitting}
 use Rattle.lanes.specs.declared.Kind.{Kind}
-use Rattle.lanes.proofs.Tests.{Bytes, width-exactly, in-bytes}
+use Rattle.lanes.proofs.Tests.{WholeBytes, width-exactly, in-bytes}
 
 module _ {vl : ℕ} {z : List ℕ} {register : ℕ} {kind : Kind} {width lane : ℕ} (t : There vl z register kind width lane) where
-  pub bytes : Bytes width
+  pub bytes : WholeBytes width
   bytes = in-bytes kind width (t .sized)
 
   within : laneAt vl register width lane + width / 8 ≤ length z
@@ -30,8 +30,8 @@ module _ {vl : ℕ} {z : List ℕ} {register : ℕ} {kind : Kind} {width lane : 
       let ends = within in
       omega arith
 
-  pub fitting : ((k : ℕ) → getD z k 0 < 256) → Fitting kind width (bytesAt z (laneAt vl register width lane) (width / 8))
-  fitting small = record {
+  pub lane-fitting : ((k : ℕ) → getD z k 0 < 256) → Fitting kind width (bytesAt z (laneAt vl register width lane) (width / 8))
+  lane-fitting small = record {
     fits = width-exactly kind width .1 (t .sized);
     below = rw (bytes .whole) at (in-bits (λ j. getD z (laneAt vl register width lane + j) 0) (λ j. small (laneAt vl register width lane + j)) (width / 8));
   }

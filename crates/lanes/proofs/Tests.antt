@@ -8,13 +8,13 @@ use lib.Dec.{T, ltb, leb, eqb, lit<, lit≤}
 use lib.ListN.{length}
 use borrow.Author.Tests.{leb-true, le-leb, ltb-true, lt-ltb, eqb-true, eq-eqb}
 use Rattle.ground.proofs.Laws.{all-of, all-hold, or-cases}
-use Rattle.loads.proofs.Accepts.{length-exactly}
+use Rattle.steps.proofs.Accepts.{length-exactly}
 use Rattle.lanes.specs.Lanes.{widthFits, laneTests, laneThere}
-use Rattle.lanes.specs.Said.{At, There}
+use Rattle.lanes.specs.Said.{WidthFor, There}
 use Rattle.lanes.specs.declared.Kind.{Kind}
 use Rattle.lanes.specs.declared.Kind.the-variants.{Whole, Single, Double}
 
-pub width-exactly : (kind : Kind) (width : ℕ) → (widthFits kind width ≡ true) ↔ At kind width
+pub width-exactly : (kind : Kind) (width : ℕ) → (widthFits kind width ≡ true) ↔ WidthFor kind width
 width-exactly Whole width = (
   λ h.
       or-cases ((eqb width 8 || eqb width 16) || eqb width 32) _ h
@@ -28,15 +28,15 @@ width-exactly Single width = (eqb-true _ _, eq-eqb _ _)
 width-exactly Double width = (eqb-true _ _, eq-eqb _ _)
 
 -- a width that fits is 1 to 8 whole bytes
-pub record Bytes (width : ℕ) : Type 0 where
+pub record WholeBytes (width : ℕ) : Type 0 where
   pub some : 0 < width
   pub whole : 8 * (width / 8) ≡ width
   pub word : width / 8 ≤ 8
 
-is : (n : ℕ) → T (ltb 0 n) → 8 * (n / 8) ≡ n → T (leb (n / 8) 8) → {width : ℕ} → width ≡ n → Bytes width
+is : (n : ℕ) → T (ltb 0 n) → 8 * (n / 8) ≡ n → T (leb (n / 8) 8) → {width : ℕ} → width ≡ n → WholeBytes width
 is n s w b e = rw e (record { some = lit< s; whole = w; word = lit≤ b })
 
-pub in-bytes : (kind : Kind) (width : ℕ) → At kind width → Bytes width
+pub in-bytes : (kind : Kind) (width : ℕ) → WidthFor kind width → WholeBytes width
 in-bytes Whole width h =
     ⊎-elim (is 8 tt refl tt) (⊎-elim (is 16 tt refl tt) (⊎-elim (is 32 tt refl tt) (is 64 tt refl tt))) h
 in-bytes Single width e = is 32 tt refl tt e

@@ -12,14 +12,14 @@ use lib.ListN.{length, getD}
 use Rattle.ground.specs.Lists.{little}
 use Rattle.ground.proofs.Laws.{only-one, off, if-cases, little-digit}
 use Rattle.lanes.specs.Lanes.{laneThere, floatCase, floatOf, shownAs, shownOf, bitsOf}
-use Rattle.lanes.specs.Said.{At, There, byteOf, AsFloat, AsAsked, OfFormat, Answers}
+use Rattle.lanes.specs.Said.{WidthFor, There, laneByte, AsFloat, AsAsked, OfFormat, Answers}
 use Rattle.lanes.specs.declared.Kind.{Kind}
 use Rattle.lanes.specs.declared.Kind.the-variants as As
 use Rattle.lanes.specs.declared.Shown.{Shown}
 use Rattle.lanes.specs.declared.Shown.the-variants.{Single, Double, Whole, NoLane}
 use Rattle.lanes.proofs.Patterns.{of-nan, of-float, bits-kept}
 use Rattle.lanes.proofs.Tests.{there-exactly}
-use Rattle.lanes.proofs.Places.{fitting}
+use Rattle.lanes.proofs.Places.{lane-fitting}
 
 -- ---- bits that are shown, whatever lane they are of
 some-float : (f : Format) (x : Float) → floatCase f x ≡ NoLane → ⊥
@@ -38,7 +38,7 @@ some As.Whole n e = some-whole n e
 some As.Single n e = some-of binary32 n e
 some As.Double n e = some-of binary64 n e
 
-kept : (kind : Kind) (width n : ℕ) → At kind width → n < 2 ^ width → bitsOf (shownAs kind n) ≡ n
+kept : (kind : Kind) (width n : ℕ) → WidthFor kind width → n < 2 ^ width → bitsOf (shownAs kind n) ≡ n
 unfolding bitsOf
 kept As.Whole width n e h = refl
 kept As.Single width n e h = bits-kept binary32 n (rw e at h)
@@ -69,7 +69,7 @@ told-format As.Double n = float-format binary64 n
 module _ (vl : ℕ) (z : List ℕ) (register : ℕ) (kind : Kind) (width lane : ℕ) where
   -- the number of the lane's bytes, lowest first
   abbrev bits : ℕ
-  bits = little (byteOf vl z register width lane) 0 (width / 8)
+  bits = little (laneByte vl z register width lane) 0 (width / 8)
 
   shown-there : There vl z register kind width lane → shownOf vl z register kind width lane ≡ shownAs kind bits
   unfolding shownOf
@@ -90,19 +90,19 @@ module _ (vl : ℕ) (z : List ℕ) (register : ℕ) (kind : Kind) (width lane : 
 
     module _ (small : (k : ℕ) → getD z k 0 < 256) (t : There vl z register kind width lane) where
       below : bits < 2 ^ width
-      below = fitting t small .below
+      below = lane-fitting t small .below
 
       -- "with exactly the lane's bits": the number of its bytes, each byte, and no other bit
-      pub bits-exactly : bitsOf r ≡ little (byteOf vl z register width lane) 0 (width / 8)
+      pub bits-exactly : bitsOf r ≡ little (laneByte vl z register width lane) 0 (width / 8)
       bits-exactly = rw (p ∙ shown-there t) (kept kind width bits (t .sized) below)
 
       pub bits-below : bitsOf r < 2 ^ width
       bits-below = rw bits-exactly below
 
-      pub bytes-exactly : (j : ℕ) → j < width / 8 → bitsOf r / 256 ^ j % 256 ≡ byteOf vl z register width lane j
+      pub bytes-exactly : (j : ℕ) → j < width / 8 → bitsOf r / 256 ^ j % 256 ≡ laneByte vl z register width lane j
       bytes-exactly j l =
           rw bits-exactly
-          (rw zero-add at (little-digit (byteOf vl z register width lane) 0 (width / 8) (λ k _. small _) j l))
+          (rw zero-add at (little-digit (laneByte vl z register width lane) 0 (width / 8) (λ k _. small _) j l))
 
       -- "as a single, a double or a whole number, as asked"
       pub as-asked : AsAsked kind r
@@ -113,5 +113,5 @@ module _ (vl : ℕ) (z : List ℕ) (register : ℕ) (kind : Kind) (width lane : 
     unfolding shownOf
     of-format = rw p (if-cases OfFormat (laneThere vl (length z) register kind width lane) (shownAs kind bits) NoLane (λ _. told-format kind bits) (λ _. tt))
 
-    pub answers : ((k : ℕ) → getD z k 0 < 256) → Answers vl z register kind width lane r
-    answers small = record { none = none-exactly .1; asked = as-asked small; bytes = bytes-exactly small; below = bits-below small }
+    pub window-answers : ((k : ℕ) → getD z k 0 < 256) → Answers vl z register kind width lane r
+    window-answers small = record { none = none-exactly .1; asked = as-asked small; bytes = bytes-exactly small; below = bits-below small }

@@ -7,7 +7,7 @@ use lib.ListN.{length}
 use lib.Ieee.{Float, Format, binary32, binary64, ofBits, toBits, nanBits}
 use Rattle.ground.specs.Choices.{if_then_else_, allOf}
 use Rattle.ground.specs.Lists.{bytesAt}
-use Rattle.loads.specs.Benches.{isLengthAllowed}
+use Rattle.steps.specs.Benches.{isLengthAllowed}
 use Rattle.lanes.specs.declared.Kind.{Kind}
 use Rattle.lanes.specs.declared.Kind.the-variants as As
 use Rattle.lanes.specs.declared.Shown.{Shown}

@@ -1,4 +1,4 @@
 -- What the lane window's contracts cite, and document 01's words for it.
 pub mod Lanes
 pub mod Said
-pub mod Inner
+pub mod Inside

@@ -7,7 +7,7 @@ use mathlib.Core.Logic.{_⊎_}
 use lib.Dec.{T}
 use lib.Ieee.{Float, Format, binary32, binary64, nanBits, fits}
 use lib.ListN.{length, getD}
-use Rattle.loads.specs.Said.{LengthAllowed}
+use Rattle.steps.specs.Said.{LengthAllowed}
 use Rattle.lanes.specs.Lanes.{bitsOf}
 use Rattle.lanes.specs.declared.Kind.{Kind}
 use Rattle.lanes.specs.declared.Kind.the-variants as As
@@ -15,22 +15,22 @@ use Rattle.lanes.specs.declared.Shown.{Shown}
 use Rattle.lanes.specs.declared.Shown.the-variants.{Single, Double, Whole, NoLane}
 
 -- "whole at 8, 16, 32, 64 bits, single at 32, double at 64"
-abbrev pub At : Kind → ℕ → Type 0
-At As.Whole width = (width ≡ 8) ⊎ ((width ≡ 16) ⊎ ((width ≡ 32) ⊎ (width ≡ 64)))
-At As.Single width = width ≡ 32
-At As.Double width = width ≡ 64
+abbrev pub WidthFor : Kind → ℕ → Type 0
+WidthFor As.Whole width = (width ≡ 8) ⊎ ((width ≡ 16) ⊎ ((width ≡ 32) ⊎ (width ≡ 64)))
+WidthFor As.Single width = width ≡ 32
+WidthFor As.Double width = width ≡ 64
 
 -- there is such a lane: not "wrong VL, file length, register over 31, width or lane"
 pub record There (vl : ℕ) (z : List ℕ) (register : ℕ) (kind : Kind) (width lane : ℕ) : Type 0 where
   pub allowed : LengthAllowed vl
   pub file : length z ≡ 32 * (vl / 8)
   pub named : register ≤ 31
-  pub sized : At kind width
+  pub sized : WidthFor kind width
   pub counted : lane < vl / width
 
 -- byte j of a lane: "32 registers of VL/8 bytes, register 0 first, lowest byte first"
-abbrev pub byteOf : ℕ → List ℕ → ℕ → ℕ → ℕ → ℕ → ℕ
-byteOf vl z register width lane j = getD z (register * (vl / 8) + lane * (width / 8) + j) 0
+abbrev pub laneByte : ℕ → List ℕ → ℕ → ℕ → ℕ → ℕ → ℕ
+laneByte vl z register width lane j = getD z (register * (vl / 8) + lane * (width / 8) + j) 0
 
 -- "shown as a single, a double or a whole number, as asked"; a NaN, of which the language makes no float, as a whole number
 abbrev pub AsFloat : Format → (Float → Shown) → Shown → Type 0
@@ -54,5 +54,5 @@ pub record Answers (vl : ℕ) (z : List ℕ) (register : ℕ) (kind : Kind) (wid
   pub none : (There vl z register kind width lane → ⊥) → r ≡ NoLane
   pub asked : There vl z register kind width lane → AsAsked kind r
   -- "with exactly the lane's bits"
-  pub bytes : There vl z register kind width lane → (j : ℕ) → j < width / 8 → bitsOf r / 256 ^ j % 256 ≡ byteOf vl z register width lane j
+  pub bytes : There vl z register kind width lane → (j : ℕ) → j < width / 8 → bitsOf r / 256 ^ j % 256 ≡ laneByte vl z register width lane j
   pub below : There vl z register kind width lane → bitsOf r < 2 ^ width

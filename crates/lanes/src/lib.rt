@@ -1,10 +1,10 @@
 // The lane window: what a lane of the lent vector file holds, as the operator asks for it.
-use loads::allowed;
+use steps::allowed;
 ghost use mathlib.Core.Path.{_≡_};
 ghost use Prim.Native.Nat.{_<_, _^_};
 ghost use lib.Ieee.{binary32, binary64};
 ghost use Rattle.lanes.specs.Lanes.{widthFits, laneThere, laneAt, floatOf, shownAs, shownOf};
-ghost use Rattle.lanes.specs.Inner.{Fitting};
+ghost use Rattle.lanes.specs.Inside.{Fitting};
 
 // How a lane is asked for.
 pub enum Kind {
@@ -22,7 +22,7 @@ pub enum Shown {
 }
 
 // Whether a lane of this width can be asked for so.
-fn fits(kind: Kind, width: u32) -> bool
+fn width_fits(kind: Kind, width: u32) -> bool
     ensures { λ r. ⌜ r ≡ widthFits kind width ⌝ }
 {
     match kind {
@@ -33,10 +33,10 @@ fn fits(kind: Kind, width: u32) -> bool
 }
 
 // Whether a file of n bytes has the lane. The first two tests come first because without them a product may wrap and a width be 0.
-fn there(vl: u64, n: usize, register: u32, kind: Kind, width: u32, lane: u64) -> bool
+fn lane_there(vl: u64, n: usize, register: u32, kind: Kind, width: u32, lane: u64) -> bool
     ensures { λ r. ⌜ r ≡ laneThere vl n register kind width lane ⌝ }
 {
-    if allowed(vl) & fits(kind, width) {
+    if allowed(vl) & width_fits(kind, width) {
         return (n as u64 == 32 * (vl / 8)) & (register <= 31) & (lane < vl / (width as u64));
     }
     false
@@ -73,7 +73,7 @@ fn double(bits: u64) -> Shown
 }
 
 // The bits of a lane, as asked. A single's width is 32, so that no bit of it is lost.
-fn told(kind: Kind, width: u32, bits: u64) -> Shown
+fn as_asked(kind: Kind, width: u32, bits: u64) -> Shown
     requires { ⌜ Fitting kind width bits ⌝ }
     ensures { λ r. ⌜ r ≡ shownAs kind bits ⌝ }
 {
@@ -88,9 +88,9 @@ fn told(kind: Kind, width: u32, bits: u64) -> Shown
 pub fn show(vl: u64, z: &[u8], register: u32, kind: Kind, width: u32, lane: u64) -> Shown
     ensures { λ r. ⌜ r ≡ shownOf vl (now (z .entry)) register kind width lane ⌝ }
 {
-    if there(vl, z.len(), register, kind, width, lane) {
+    if lane_there(vl, z.len(), register, kind, width, lane) {
         let at = place(vl, register, width, lane) as usize;
-        return told(kind, width, ground::number(z, at, (width / 8) as usize));
+        return as_asked(kind, width, ground::number(z, at, (width / 8) as usize));
     }
     Shown::NoLane
 }

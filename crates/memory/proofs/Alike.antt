@@ -11,7 +11,7 @@ use Rattle.memory.specs.declared.Cell.{Cell}
 use Rattle.memory.specs.declared.Cell.the-variants as C
 use Rattle.memory.specs.Areas.{Area, Areas}
 use Rattle.memory.specs.Bytes.{lookOf}
-use Rattle.memory.specs.Said.{Holds, Right, Taken, Of, in-flash, in-ram, SamePlaces, Both, flashes, rams}
+use Rattle.memory.specs.Said.{Holds, Right, AreasAccepted, OneOf, in-flash, in-ram, SamePlaces, Both, flashes, rams}
 use Rattle.memory.specs.Troubles.{troubleAt}
 use Rattle.memory.proofs.Looks.{nowhere-exactly, denied-exactly, byte-exactly, right-byte, no-right-denied}
 
@@ -19,10 +19,10 @@ use Rattle.memory.proofs.Looks.{nowhere-exactly, denied-exactly, byte-e
 held : {f f′ n n′ a : ℕ} → f ≡ f′ → n ≡ n′ → (f ≤ a) × (a < f + n) → (f′ ≤ a) × (a < f′ + n′)
 held p q h = let u = h .0 in let v = h .1 in (omega arith, omega arith)
 
-module _ (m n : Areas) (taken : Taken m) (taken′ : Taken n) (same : SamePlaces m n) (a : ℕ)
+module _ (m n : Areas) (accepted : AreasAccepted m) (accepted′ : AreasAccepted n) (same : SamePlaces m n) (a : ℕ)
     (right : (r r′ : Area) → Both m n r r′ → Holds r a → Right r a ↔ Right r′ a) where
   -- an area's fellow holds the same addresses
-  fellow : {r : Area} → Of m r → Holds r a → (r′ : Area) × Of n r′ × Both m n r r′ × Holds r′ a
+  fellow : {r : Area} → OneOf m r → Holds r a → (r′ : Area) × OneOf n r′ × Both m n r r′ × Holds r′ a
   fellow in-flash h = (n .flash, in-flash, flashes, held (same .flash-start) (same .flash-length) h)
   fellow in-ram h = (n .ram, in-ram, rams, held (same .ram-start) (same .ram-length) h)
 
@@ -39,13 +39,13 @@ module _ (m n : Areas) (taken : Taken m) (taken′ : Taken n) (same : SamePlaces
     where
       go : (c : Cell) → lookOf m a ≡ c → Alike
       go (C.Byte v) h =
-          let e = byte-exactly m taken a v .0 h in
+          let e = byte-exactly m accepted a v .0 h in
           let f = fellow (e .1) (e .2) in
-          inl (e .0, f .0, f .2, e .2, right-byte m taken a (e .1) (e .2) (e .3), right-byte n taken′ a (f .1) (f .3) (right _ _ (f .2) (e .2) .0 (e .3)))
+          inl (e .0, f .0, f .2, e .2, right-byte m accepted a (e .1) (e .2) (e .3), right-byte n accepted′ a (f .1) (f .3) (right _ _ (f .2) (e .2) .0 (e .3)))
       go (C.Bad Denied) h =
-          let e = denied-exactly m taken a .0 h in
+          let e = denied-exactly m accepted a .0 h in
           let f = fellow (e .1) (e .2) in
-          inr (Denied, h, no-right-denied n taken′ a (f .1) (f .3) (λ q. e .3 (right _ _ (f .2) (e .2) .1 q)))
+          inr (Denied, h, no-right-denied n accepted′ a (f .1) (f .3) (λ q. e .3 (right _ _ (f .2) (e .2) .1 q)))
       go (C.Bad Nowhere) h =
           let k = nowhere-exactly m a .0 h in
           let flash = held (sym (same .flash-start)) (sym (same .flash-length)) in

@@ -15,7 +15,7 @@ use Rattle.memory.specs.declared.Cell.{Cell}
 use Rattle.memory.specs.declared.Cell.the-variants as C
 use Rattle.memory.specs.declared.Reading.{Reading}
 use Rattle.memory.specs.declared.Reading.the-variants.{Value, Bad}
-use Rattle.memory.specs.Troubles.{FindsByte, byteOf, Trouble, none, bad, troubleAt, troubleOf}
+use Rattle.memory.specs.Troubles.{FindsByte, byteFound, Trouble, none, bad, troubleAt, troubleOf}
 
 -- the bytes i, i + 1 and on of the element at a, n of them
 abbrev bytes : (ℕ → Cell) → ℕ → ℕ → ℕ → Reading
@@ -43,7 +43,7 @@ module _ (look : ℕ → Cell) (a n : ℕ) (l : a < 2 ^ 64) where
       go (C.Bad f) e = inr (f, e)
 
   abbrev value : ℕ → ℕ → ℕ
-  value = little (λ k. byteOf (look (plusOf a k)))
+  value = little (λ k. byteFound (look (plusOf a k)))
 
   value-from : AllGood Found 0 (0 + n) → readingOf look a n ≡ Value (value 0 n)
   unfolding readingOf
@@ -61,7 +61,7 @@ module _ (look : ℕ → Cell) (a n : ℕ) (l : a < 2 ^ 64) where
       0 k (λ j u v. h j u (omega arith)) (rw (zero-add k, zero-add (suc r), next look a k r, p)))
 
   pub value-exactly : (v : ℕ) → (readingOf look a n ≡ Value v)
-      ↔ (((k : ℕ) → k < n → FindsByte look (plusOf a k)) × (v ≡ little (λ k. byteOf (look (plusOf a k))) 0 n))
+      ↔ (((k : ℕ) → k < n → FindsByte look (plusOf a k)) × (v ≡ little (λ k. byteFound (look (plusOf a k))) 0 n))
   value-exactly v = (
     λ e. ⊎-elim
         (λ c. (λ k m. c k (omega arith) (omega arith), (let q = value-from c in cc)))

@@ -6,6 +6,6 @@ pub mod Moves
 pub mod Looks
 pub mod Alike
 pub mod Elements
-pub mod Takes
+pub mod Accepts
 pub mod Windows
 pub mod Unique

@@ -12,14 +12,14 @@ use Rattle.ground.proofs.Laws.{true-or-false}
 use Rattle.memory.specs.declared.Fault.the-variants.{Nowhere, Denied}
 use Rattle.memory.specs.declared.Cell.{Cell}
 use Rattle.memory.specs.declared.Cell.the-variants.{Byte, Bad}
-use Rattle.memory.specs.Areas.{pageBytes, Area, Areas, holds, placeOf}
+use Rattle.memory.specs.Areas.{pageBytes, Area, Areas, covers, placeOf}
 use Rattle.memory.specs.Bytes.{judged, lookOf}
-use Rattle.memory.specs.Said.{Holds, Right, Taken, Of, in-flash, in-ram}
+use Rattle.memory.specs.Said.{Holds, Right, AreasAccepted, OneOf, in-flash, in-ram}
 use Rattle.memory.proofs.Places.{holds-exactly, holds-not}
 
 -- the test of whether an area holds an address
 abbrev holdsAt : Area → ℕ → Bool
-holdsAt r a = holds (r .start) (length (r .bytes)) a
+holdsAt r a = covers (r .start) (length (r .bytes)) a
 
 -- what a load may do at an address of an area
 abbrev judgedAt : Area → ℕ → Cell
@@ -64,7 +64,7 @@ module _ (m : Areas) (a : ℕ) where
   -- an area holds the address and is looked at, or none does
   Found : Type 0
   Found =
-      ((r : Area) × Of m r × Holds r a × (lookOf m a ≡ judgedAt r a))
+      ((r : Area) × OneOf m r × Holds r a × (lookOf m a ≡ judgedAt r a))
       ⊎ ((Holds (m .flash) a → ⊥) × (Holds (m .ram) a → ⊥) × (lookOf m a ≡ Bad Nowhere))
 
   found : Found
@@ -78,7 +78,7 @@ module _ (m : Areas) (a : ℕ) where
       (true-or-false (holdsAt (m .ram) a)))
       (true-or-false (holdsAt (m .flash) a))
 
-  pub held-none : (Holds (m .flash) a → ⊥) × (Holds (m .ram) a → ⊥) → (r : Area) → Of m r → Holds r a → ⊥
+  pub held-none : (Holds (m .flash) a → ⊥) × (Holds (m .ram) a → ⊥) → (r : Area) → OneOf m r → Holds r a → ⊥
   held-none h r in-flash k = h .0 k
   held-none h r in-ram k = h .1 k
 
@@ -90,21 +90,21 @@ module _ (m : Areas) (a : ℕ) where
   )
 
 -- taken areas: one law for flash and RAM
-module _ (m : Areas) (t : Taken m) (a : ℕ) where
-  pub looked : {r : Area} → Of m r → Holds r a → lookOf m a ≡ judged (r .bytes) (r .rights) (a - r .start)
+module _ (m : Areas) (t : AreasAccepted m) (a : ℕ) where
+  pub looked : {r : Area} → OneOf m r → Holds r a → lookOf m a ≡ judged (r .bytes) (r .rights) (a - r .start)
   looked in-flash h = flash-first m a h
   looked in-ram h = ⊎-elim
       (λ e. absurd (t .share-none a (holds-exactly (m .flash) a .0 e) h))
       (λ e. from-ram m a e h)
       (true-or-false (holdsAt (m .flash) a))
 
-  pub right-byte : {r : Area} → Of m r → Holds r a → Right r a → lookOf m a ≡ Byte (getD (r .bytes) (a - r .start) 0)
+  pub right-byte : {r : Area} → OneOf m r → Holds r a → Right r a → lookOf m a ≡ Byte (getD (r .bytes) (a - r .start) 0)
   right-byte {r} o h k = looked o h ∙ judged-right r a k
 
-  pub no-right-denied : {r : Area} → Of m r → Holds r a → (Right r a → ⊥) → lookOf m a ≡ Bad Denied
+  pub no-right-denied : {r : Area} → OneOf m r → Holds r a → (Right r a → ⊥) → lookOf m a ≡ Bad Denied
   no-right-denied {r} o h k = looked o h ∙ judged-denied r a k
 
-  pub denied-exactly : (lookOf m a ≡ Bad Denied) ↔ ((r : Area) × Of m r × Holds r a × (Right r a → ⊥))
+  pub denied-exactly : (lookOf m a ≡ Bad Denied) ↔ ((r : Area) × OneOf m r × Holds r a × (Right r a → ⊥))
   unfolding Found
   denied-exactly = (
     λ e. ⊎-elim
@@ -114,7 +114,7 @@ module _ (m : Areas) (t : Taken m) (a : ℕ) where
     λ w. no-right-denied (w .1) (w .2) (w .3),
   )
 
-  pub byte-exactly : (b : ℕ) → (lookOf m a ≡ Byte b) ↔ ((r : Area) × Of m r × Holds r a × Right r a × (b ≡ getD (r .bytes) (a - r .start) 0))
+  pub byte-exactly : (b : ℕ) → (lookOf m a ≡ Byte b) ↔ ((r : Area) × OneOf m r × Holds r a × Right r a × (b ≡ getD (r .bytes) (a - r .start) 0))
   unfolding Found
   byte-exactly b = (
     λ e. ⊎-elim

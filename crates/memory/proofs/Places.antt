@@ -1,4 +1,4 @@
--- Where an address lies: the test `holds` is `Holds`, and a place lies within its area.
+-- Where an address lies: the test `covers` is `Holds`, and a place lies within its area.
 use mathlib.Core.Path.{_≡_, refl}
 use mathlib.Core.Bool.{Bool, true, false}
 use mathlib.Core.Logic.{_↔_, ⊎-elim}
@@ -11,43 +11,43 @@ use Rattle.ground.specs.Choices.{if_then_else_}
 use Rattle.ground.proofs.Laws.{if-cases, true-or-false, never}
 use Rattle.memory.specs.declared.Place.{Place}
 use Rattle.memory.specs.declared.Place.the-variants.{Flash, Ram, Nowhere}
-use Rattle.memory.specs.Areas.{Area, holds, placeOf}
+use Rattle.memory.specs.Areas.{Area, covers, placeOf}
 use Rattle.memory.specs.Said.{Holds}
 
 module _ (start n a : ℕ) where
-  pub held : holds start n a ≡ true → (start ≤ a) × (a < start + n)
-  unfolding holds
+  pub held : covers start n a ≡ true → (start ≤ a) × (a < start + n)
+  unfolding covers
   held = if-cases (λ (t : Bool). t ≡ true → (start ≤ a) × (a < start + n)) (ltb a start) false (ltb (a - start) n)
       (λ l e. never e refl)
       (λ l e. let p = ltb-false a start l in let q = ltb-true (a - start) n e in omega arith)
 
-  hold : start ≤ a → a < start + n → holds start n a ≡ true
-  unfolding holds
+  hold : start ≤ a → a < start + n → covers start n a ≡ true
+  unfolding covers
   hold p q = rw (le-ltb a start p) (lt-ltb (a - start) n (omega arith))
 
 -- the test is the statement, and so is its failure
 module _ (r : Area) (a : ℕ) where
-  pub holds-exactly : (holds (r .start) (length (r .bytes)) a ≡ true) ↔ Holds r a
+  pub holds-exactly : (covers (r .start) (length (r .bytes)) a ≡ true) ↔ Holds r a
   holds-exactly = (held (r .start) (length (r .bytes)) a, λ h. hold (r .start) (length (r .bytes)) a (h .0) (h .1))
 
-  pub holds-not : (holds (r .start) (length (r .bytes)) a ≡ false) ↔ (Holds r a → ⊥)
+  pub holds-not : (covers (r .start) (length (r .bytes)) a ≡ false) ↔ (Holds r a → ⊥)
   holds-not = (
     λ e h. never (holds-exactly .1 h) e,
-    λ h. ⊎-elim (λ e. absurd (h (holds-exactly .0 e))) (λ e. e) (true-or-false (holds (r .start) (length (r .bytes)) a)),
+    λ h. ⊎-elim (λ e. absurd (h (holds-exactly .0 e))) (λ e. e) (true-or-false (covers (r .start) (length (r .bytes)) a)),
   )
 
 -- a place, between an area of fn bytes and one of rn
-abbrev pub Inside : ℕ → ℕ → Place → Type 0
-Inside fn rn (Flash k) = k < fn
-Inside fn rn (Ram k) = k < rn
-Inside fn rn Nowhere = Unit {0}
+abbrev pub PlaceWithin : ℕ → ℕ → Place → Type 0
+PlaceWithin fn rn (Flash k) = k < fn
+PlaceWithin fn rn (Ram k) = k < rn
+PlaceWithin fn rn Nowhere = Unit {0}
 
-place-inside : (f fn r rn a : ℕ) → Inside fn rn (placeOf f fn r rn a)
+place-inside : (f fn r rn a : ℕ) → PlaceWithin fn rn (placeOf f fn r rn a)
 unfolding placeOf
 place-inside f fn r rn a =
-    if-cases (Inside fn rn) (holds f fn a) (Flash (a - f)) (if holds r rn a then Ram (a - r) else Nowhere)
+    if-cases (PlaceWithin fn rn) (covers f fn a) (Flash (a - f)) (if covers r rn a then Ram (a - r) else Nowhere)
     (λ e. let h = held f fn a e in omega arith)
-    (λ _. if-cases (Inside fn rn) (holds r rn a) (Ram (a - r)) Nowhere (λ e. let h = held r rn a e in omega arith) (λ _. tt))
+    (λ _. if-cases (PlaceWithin fn rn) (covers r rn a) (Ram (a - r)) Nowhere (λ e. let h = held r rn a e in omega arith) (λ _. tt))
 
-pub within : (f fn r rn a : ℕ) (p : Place) → placeOf f fn r rn a ≡ p → Inside fn rn p
-within f fn r rn a p e = rw e at (place-inside f fn r rn a)
+pub place-within : (f fn r rn a : ℕ) (p : Place) → placeOf f fn r rn a ≡ p → PlaceWithin fn rn p
+place-within f fn r rn a p e = rw e at (place-inside f fn r rn a)

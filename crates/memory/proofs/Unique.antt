@@ -15,7 +15,7 @@ use Rattle.memory.specs.declared.Place.the-variants.{Flash, Ram, Nowhere
 use Rattle.memory.specs.declared.Cell.{Cell}
 use Rattle.memory.specs.declared.Reading.{Reading}
 use Rattle.memory.specs.Addresses.{plusOf, movedOf}
-use Rattle.memory.specs.Areas.{Areas, areasTaken}
+use Rattle.memory.specs.Areas.{Areas, areAreasAccepted}
 use Rattle.memory.specs.Bytes.{lookOf}
 use Rattle.memory.specs.Elements.{readingOf}
 use Rattle.memory.specs.Windows.{PartOf, Shows, shownPlace, WindowPromise}
@@ -31,8 +31,8 @@ pub moved-unique : (a : ℕ) (d : ℤ) (x y : Address) → x .0 ≡ movedOf a d 
 moved-unique a d x y p q = address-unique x y p q
 
 module _ (m : Areas) where
-  pub taken-unique : (x y : Bool) → x ≡ areasTaken m → y ≡ areasTaken m → x ≡ y
-  taken-unique x y p q = only-one p q
+  pub areas-accepted-unique : (x y : Bool) → x ≡ areAreasAccepted m → y ≡ areAreasAccepted m → x ≡ y
+  areas-accepted-unique x y p q = only-one p q
 
   pub byte-unique : (a : ℕ) (x y : Cell) → x ≡ lookOf m a → y ≡ lookOf m a → x ≡ y
   byte-unique a x y p q = only-one p q

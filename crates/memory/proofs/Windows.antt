@@ -11,56 +11,56 @@ use denote.Ref.{RefT}
 use Rattle.ground.proofs.Laws.{true-or-false}
 use Rattle.memory.specs.declared.Place.{Place}
 use Rattle.memory.specs.declared.Place.the-variants.{Flash, Ram, Nowhere}
-use Rattle.memory.specs.Areas.{Area, Areas, areasTaken, placeOf, placeIn}
+use Rattle.memory.specs.Areas.{Area, Areas, areAreasAccepted, placeOf, placeIn}
 use Rattle.memory.specs.Windows.{PartOf, shownPlace, WindowPromise}
-use Rattle.memory.specs.Said.{Holds, Taken, Of, in-flash, in-ram}
-use Rattle.memory.proofs.Places.{holds-exactly, holds-not, Inside, within}
-use Rattle.memory.proofs.Takes.{taken-exactly}
+use Rattle.memory.specs.Said.{Holds, AreasAccepted, OneOf, in-flash, in-ram}
+use Rattle.memory.proofs.Places.{holds-exactly, holds-not, PlaceWithin, place-within}
+use Rattle.memory.proofs.Accepts.{areas-exactly}
 
 module _ (m : Areas) (a : ℕ) where
-  pub shown-taken : areasTaken m ≡ true → shownPlace m a ≡ placeIn m a
+  pub shown-accepted : areAreasAccepted m ≡ true → shownPlace m a ≡ placeIn m a
   unfolding shownPlace
-  shown-taken t = rw t
+  shown-accepted t = rw t
 
-  pub shown-untaken : areasTaken m ≡ false → shownPlace m a ≡ Nowhere
+  pub shown-refused : areAreasAccepted m ≡ false → shownPlace m a ≡ Nowhere
   unfolding shownPlace
-  shown-untaken t = rw t
+  shown-refused t = rw t
 
   -- a place that is shown lies within its area
-  pub shown-within : (p : Place) → shownPlace m a ≡ p → Inside (length (m .flash .bytes)) (length (m .ram .bytes)) p
+  pub shown-within : (p : Place) → shownPlace m a ≡ p → PlaceWithin (length (m .flash .bytes)) (length (m .ram .bytes)) p
   shown-within p e =
       ⊎-elim
-      (λ t. within _ _ _ _ a p (sym (shown-taken t) ∙ e))
-      (λ t. rw (← e, shown-untaken t) tt)
-      (true-or-false (areasTaken m))
+      (λ t. place-within _ _ _ _ a p (sym (shown-accepted t) ∙ e))
+      (λ t. rw (← e, shown-refused t) tt)
+      (true-or-false (areAreasAccepted m))
 
 -- the slice that an area's bytes are lent in
-abbrev pub lentOf : {m : Areas} {r : Area} → Of m r → RefT (List ℕ) → RefT (List ℕ) → RefT (List ℕ)
-lentOf in-flash flash ram = flash
-lentOf in-ram flash ram = ram
+abbrev pub sliceOf : {m : Areas} {r : Area} → OneOf m r → RefT (List ℕ) → RefT (List ℕ) → RefT (List ℕ)
+sliceOf in-flash flash ram = flash
+sliceOf in-ram flash ram = ram
 
 module _ (m : Areas) (a : ℕ) (flash ram p : RefT (List ℕ)) (w : WindowPromise m a flash ram p) where
   -- the area that holds the address, once for flash and RAM
-  pub shows-rest : Taken m → {r : Area} (o : Of m r) → Holds r a → PartOf (lentOf o flash ram) p (a - r .start) (length (lentOf o flash ram .now))
+  pub shows-rest : AreasAccepted m → {r : Area} (o : OneOf m r) → Holds r a → PartOf (sliceOf o flash ram) p (a - r .start) (length (sliceOf o flash ram .now))
   unfolding placeOf
   shows-rest t in-flash h =
       let e : placeIn m a ≡ Flash (a - m .flash .start) = rw (holds-exactly (m .flash) a .1 h) in
-      rw (shown-taken m a (taken-exactly m .1 t), e) at w
+      rw (shown-accepted m a (areas-exactly m .1 t), e) at w
   shows-rest t in-ram h =
       let e : placeIn m a ≡ Ram (a - m .ram .start) = rw (holds-not (m .flash) a .1 (λ k. t .share-none a k h), holds-exactly (m .ram) a .1 h) in
-      rw (shown-taken m a (taken-exactly m .1 t), e) at w
+      rw (shown-accepted m a (areas-exactly m .1 t), e) at w
 
   -- no such byte: an empty part, of flash
   pub shows-none : (Holds (m .flash) a → ⊥) → (Holds (m .ram) a → ⊥) → PartOf flash p 0 0
   unfolding placeOf
   shows-none f r =
       let e : placeIn m a ≡ Nowhere = rw (holds-not (m .flash) a .1 f, holds-not (m .ram) a .1 r) in
-      ⊎-elim (λ t. rw (shown-taken m a t, e) at w) (λ t. rw (shown-untaken m a t) at w) (true-or-false (areasTaken m))
+      ⊎-elim (λ t. rw (shown-accepted m a t, e) at w) (λ t. rw (shown-refused m a t) at w) (true-or-false (areAreasAccepted m))
 
   -- areas that are not taken: an empty part, of flash
-  pub shows-none-untaken : (Taken m → ⊥) → PartOf flash p 0 0
-  shows-none-untaken n =
-      ⊎-elim (λ t. absurd (n (taken-exactly m .0 t))) (λ t. rw (shown-untaken m a t) at w) (true-or-false (areasTaken m))
+  pub shows-none-refused : (AreasAccepted m → ⊥) → PartOf flash p 0 0
+  shows-none-refused n =
+      ⊎-elim (λ t. absurd (n (areas-exactly m .0 t))) (λ t. rw (shown-refused m a t) at w) (true-or-false (areAreasAccepted m))
 
 -- what a part is: no byte where it ends at its start, and all bytes from its start on where it ends with the slice
 pub part-empty : (s p : RefT (List ℕ)) → PartOf s p 0 0 → p .now ≡ []

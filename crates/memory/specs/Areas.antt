@@ -51,33 +51,33 @@ areaTests start n r =
     ∷ leb (endOf start n) (2 ^ 64)
     ∷ []
 
-unfoldable pub areaTaken : ℕ → ℕ → ℕ → Bool
-areaTaken start n r = allOf (areaTests start n r)
+unfoldable pub isAreaAccepted : ℕ → ℕ → ℕ → Bool
+isAreaAccepted start n r = allOf (areaTests start n r)
 
 -- "no address in both": one ends before the other starts, or one is empty
-unfoldable pub apart : ℕ → ℕ → ℕ → ℕ → Bool
-apart f fn r rn = leb (endOf f fn) r || leb (endOf r rn) f || eqb fn 0 || eqb rn 0
+unfoldable pub shareNone : ℕ → ℕ → ℕ → ℕ → Bool
+shareNone f fn r rn = leb (endOf f fn) r || leb (endOf r rn) f || eqb fn 0 || eqb rn 0
 
-unfoldable pub areasTaken : Areas → Bool
-areasTaken m =
+unfoldable pub areAreasAccepted : Areas → Bool
+areAreasAccepted m =
     let f = m .flash in
     let r = m .ram in
     allOf (
-    areaTaken (f .start) (length (f .bytes)) (length (f .rights))
-    ∷ areaTaken (r .start) (length (r .bytes)) (length (r .rights))
-    ∷ apart (f .start) (length (f .bytes)) (r .start) (length (r .bytes))
+    isAreaAccepted (f .start) (length (f .bytes)) (length (f .rights))
+    ∷ isAreaAccepted (r .start) (length (r .bytes)) (length (r .rights))
+    ∷ shareNone (f .start) (length (f .bytes)) (r .start) (length (r .bytes))
     ∷ []
     )
 
 -- an area of n bytes from start on holds address a
-unfoldable pub holds : ℕ → ℕ → ℕ → Bool
-holds start n a = if ltb a start then false else ltb (a - start) n
+unfoldable pub covers : ℕ → ℕ → ℕ → Bool
+covers start n a = if ltb a start then false else ltb (a - start) n
 
 -- where address a lies: flash is fn bytes from f on, RAM rn bytes from r on
 unfoldable pub placeOf : ℕ → ℕ → ℕ → ℕ → ℕ → Place
 placeOf f fn r rn a =
-    if holds f fn a then Flash (a - f)
-    else if holds r rn a then Ram (a - r)
+    if covers f fn a then Flash (a - f)
+    else if covers r rn a then Ram (a - r)
     else Nowhere
 
 abbrev pub placeIn : Areas → ℕ → Place

@@ -14,22 +14,22 @@ Right r a = getD (r .rights) ((a - r .start) / pageBytes) 0 % 2 ≡ 1
 
 -- "0 to 65,536 bytes each, and one rights byte per 4,096-byte page begun", the start a multiple of 4,096, the end at most 2^64:
 -- the pages of the rights bytes reach the area's last byte, and without the last of them they do not
-pub record AreaTaken (r : Area) : Type 0 where
+pub record AreaAccepted (r : Area) : Type 0 where
   pub limit : length (r .bytes) ≤ areaLimit
   pub reached : length (r .bytes) ≤ pageBytes * length (r .rights)
   pub begun : pageBytes * length (r .rights) < length (r .bytes) + pageBytes
   pub aligned : r .start % pageBytes ≡ 0
   pub ends : r .start + length (r .bytes) ≤ 2 ^ 64
 
-pub record Taken (m : Areas) : Type 0 where
-  pub flash : AreaTaken (m .flash)
-  pub ram : AreaTaken (m .ram)
+pub record AreasAccepted (m : Areas) : Type 0 where
+  pub flash : AreaAccepted (m .flash)
+  pub ram : AreaAccepted (m .ram)
   pub share-none : (a : ℕ) → Holds (m .flash) a → Holds (m .ram) a → ⊥
 
 -- an area is one of the two
-pub data Of (m : Areas) : Area → Type 0 where
-  in-flash : Of m (m .flash)
-  in-ram : Of m (m .ram)
+pub data OneOf (m : Areas) : Area → Type 0 where
+  in-flash : OneOf m (m .flash)
+  in-ram : OneOf m (m .ram)
 
 -- two memories whose areas start at the same addresses and are as long
 pub record SamePlaces (m n : Areas) : Type 0 where

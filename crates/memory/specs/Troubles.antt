@@ -11,9 +11,9 @@ use Rattle.memory.specs.declared.Reading.the-variants as R
 abbrev pub FindsByte : (ℕ → Cell) → ℕ → Type 0
 FindsByte look a = (b : ℕ) × (look a ≡ C.Byte b)
 
-abbrev pub byteOf : Cell → ℕ
-byteOf (C.Byte b) = b
-byteOf (C.Bad f) = 0
+abbrev pub byteFound : Cell → ℕ
+byteFound (C.Byte b) = b
+byteFound (C.Bad f) = 0
 
 -- what is left of a cell, or of a reading, when the bytes' values are forgotten
 pub data Trouble : Type 0 where

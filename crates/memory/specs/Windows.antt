@@ -5,7 +5,7 @@ use Prim.Native.Nat.{ℕ, _+_, _-_}
 use lib.ListN.{length, take, drop}
 use denote.Ref.{RefT}
 use Rattle.ground.specs.Choices.{if_then_else_}
-use Rattle.memory.specs.Areas.{Areas, areasTaken, placeIn}
+use Rattle.memory.specs.Areas.{Areas, areAreasAccepted, placeIn}
 use Rattle.memory.specs.declared.Place.{Place}
 use Rattle.memory.specs.declared.Place.the-variants.{Flash, Ram, Nowhere}
 
@@ -23,7 +23,7 @@ Shows flash ram Nowhere p = PartOf flash p 0 0
 
 -- "areas that earn answer 1 by limit, number of rights bytes, start, end or overlap: an empty part"
 unfoldable pub shownPlace : Areas → ℕ → Place
-shownPlace m a = if areasTaken m then placeIn m a else Nowhere
+shownPlace m a = if areAreasAccepted m then placeIn m a else Nowhere
 
 abbrev pub WindowPromise : Areas → ℕ → RefT (List ℕ) → RefT (List ℕ) → RefT (List ℕ) → Type 0
 WindowPromise m a flash ram p = Shows flash ram (shownPlace m a) p

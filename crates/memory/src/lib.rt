@@ -6,7 +6,7 @@ ghost use lib.Dec.{leb};
 ghost use lib.ListN.{length};
 ghost use Rattle.ground.specs.Sizes.{bytesOf};
 ghost use Rattle.memory.specs.Addresses.{plusOf, movedOf};
-ghost use Rattle.memory.specs.Areas.{areasOf, endOf, areaTaken, apart, areasTaken, holds, placeOf};
+ghost use Rattle.memory.specs.Areas.{areasOf, endOf, isAreaAccepted, shareNone, areAreasAccepted, covers, placeOf};
 ghost use Rattle.memory.specs.Bytes.{judged, lookOf};
 ghost use Rattle.memory.specs.Elements.{readingOf};
 ghost use Rattle.memory.specs.Windows.{shownPlace, WindowPromise};
@@ -84,8 +84,8 @@ fn ends(start: Address, n: usize) -> bool
 
 // Whether one area is taken by itself: its limit, rights, start and end. Within the limit the pages begun are counted in a sum that
 // does not wrap.
-fn area_taken(start: Address, n: usize, rights: usize) -> bool
-    ensures { λ r. ⌜ r ≡ areaTaken (start .0) n rights ⌝ }
+fn area_accepted(start: Address, n: usize, rights: usize) -> bool
+    ensures { λ r. ⌜ r ≡ isAreaAccepted (start .0) n rights ⌝ }
 {
     if AREA_LIMIT < n {
         return false;
@@ -113,7 +113,7 @@ fn before(start: Address, n: usize, other: Address) -> bool
 
 // Whether flash, of nf bytes, and RAM, of nr bytes, share no address.
 fn share_none(map: Map, nf: usize, nr: usize) -> bool
-    ensures { λ r. ⌜ r ≡ apart (map .flash .0) nf (map .ram .0) nr ⌝ }
+    ensures { λ r. ⌜ r ≡ shareNone (map .flash .0) nf (map .ram .0) nr ⌝ }
 {
     let flash = map.flash;
     let ram = map.ram;
@@ -124,11 +124,17 @@ fn share_none(map: Map, nf: usize, nr: usize) -> bool
 }
 
 // Whether the areas are taken.
-pub fn taken(map: Map, flash: &[u8], flash_rights: &[u8], ram: &[u8], ram_rights: &[u8]) -> bool
-    ensures { λ r. ⌜ r ≡ areasTaken (areasOf map (now (flash .entry)) (now («flash_rights» .entry)) (now (ram .entry)) (now («ram_rights» .entry))) ⌝ }
+pub fn areas_accepted(
+    map: Map,
+    flash: &[u8],
+    flash_rights: &[u8],
+    ram: &[u8],
+    ram_rights: &[u8],
+) -> bool
+    ensures { λ r. ⌜ r ≡ areAreasAccepted (areasOf map (now (flash .entry)) (now («flash_rights» .entry)) (now (ram .entry)) (now («ram_rights» .entry))) ⌝ }
 {
-    if area_taken(map.flash, flash.len(), flash_rights.len()) {
-        if area_taken(map.ram, ram.len(), ram_rights.len()) {
+    if area_accepted(map.flash, flash.len(), flash_rights.len()) {
+        if area_accepted(map.ram, ram.len(), ram_rights.len()) {
             return share_none(map, flash.len(), ram.len());
         }
     }
@@ -137,7 +143,7 @@ pub fn taken(map: Map, flash: &[u8], flash_rights: &[u8], ram: &[u8], ram_rights
 
 // Whether an area of n bytes from start on holds an address.
 fn has(start: Address, n: usize, a: Address) -> bool
-    ensures { λ r. ⌜ r ≡ holds (start .0) n (a .0) ⌝ }
+    ensures { λ r. ⌜ r ≡ covers (start .0) n (a .0) ⌝ }
 {
     let first = start.0;
     let here = a.0;
@@ -249,7 +255,7 @@ fn shorter<'f, 'r: 'f>(s: &'r [u8], like: &'f [u8]) -> &'f [u8]
 }
 
 // The place that the address window shows: nowhere where the areas are not taken.
-fn shown(
+fn shown_place(
     map: Map,
     flash: &[u8],
     flash_rights: &[u8],
@@ -259,7 +265,7 @@ fn shown(
 ) -> Place
     ensures { λ r. ⌜ r ≡ shownPlace (areasOf map (now (flash .entry)) (now («flash_rights» .entry)) (now (ram .entry)) (now («ram_rights» .entry))) (a .0) ⌝ }
 {
-    if taken(map, flash, flash_rights, ram, ram_rights) {
+    if areas_accepted(map, flash, flash_rights, ram, ram_rights) {
         return locate(map, flash.len(), ram.len(), a);
     }
     Place::Nowhere
@@ -277,7 +283,7 @@ pub fn window<'f, 'r: 'f>(
     ensures { λ p. ⌜ WindowPromise (areasOf map (now (flash .entry)) (now («flash_rights» .entry)) (now (ram .entry)) (now («ram_rights» .entry)))
         (a .0) (flash .entry) (ram .entry) p ⌝ }
 {
-    match shown(map, flash, flash_rights, ram, ram_rights, a) {
+    match shown_place(map, flash, flash_rights, ram, ram_rights, a) {
         Place::Flash(k) => &flash[k..],
         Place::Ram(k) => shorter(&ram[k..], flash),
         Place::Nowhere => &flash[0..0],

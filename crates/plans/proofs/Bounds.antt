@@ -13,7 +13,7 @@ use mir.Facts.{toZ-ofZ, toZ-pos}
 use borrow.Author.Tests.{lt-ltb, ltb-true, ltb-false}
 use Rattle.ground.proofs.Laws.{if-cases}
 use Rattle.memory.specs.Addresses.{wrap}
-use Rattle.loads.specs.Terms.{signed4, blockBytes}
+use Rattle.steps.specs.Terms.{signed4, blockBytes}
 
 pub wrap-once : (a b : ℕ) → wrap (a + wrap b) ≡ wrap (a + b)
 wrap-once a b = omega arith

@@ -11,25 +11,25 @@ use Rattle.words.specs.declared.Decoded.{Decoded}
 use Rattle.words.specs.declared.Decoded.the-variants.{Outside, Undefined, Is}
 use Rattle.words.specs.Ranges.{InsnInRange, InRange}
 use Rattle.words.proofs.Ranges.{in-range}
-use Rattle.loads.specs.Benches.{isLengthAllowed}
-use Rattle.loads.specs.Answers.{numberOf}
-use Rattle.loads.specs.Plans.{planOf}
-use Rattle.loads.specs.Said.{LengthAllowed}
-use Rattle.loads.specs.Sounds.{Sound}
-use Rattle.loads.specs.Steps.{isWide, switchedOn, refusals, plannedLoad, plannedBy, planned}
-use Rattle.loads.specs.declared.Answer.{Answer}
-use Rattle.loads.specs.declared.Answer.the-variants.{SetUp}
-use Rattle.loads.specs.declared.Settings.{Settings}
-use Rattle.loads.specs.declared.Plan.{Plan}
-use Rattle.loads.specs.declared.Planned.{Planned}
-use Rattle.loads.specs.declared.Planned.the-variants.{Stop, Go}
-use Rattle.loads.proofs.Plans.{sound}
+use Rattle.steps.specs.Benches.{isLengthAllowed}
+use Rattle.steps.specs.Answers.{numberOf}
+use Rattle.steps.specs.Plans.{planOf}
+use Rattle.steps.specs.Said.{LengthAllowed}
+use Rattle.steps.specs.Inside.{PlanInRange}
+use Rattle.steps.specs.Step.{isWide, switchedOn, refusals, plannedLoad, plannedBy, plannedOf}
+use Rattle.steps.specs.declared.Answer.{Answer}
+use Rattle.steps.specs.declared.Answer.the-variants.{SetUp}
+use Rattle.steps.specs.declared.Settings.{Settings}
+use Rattle.steps.specs.declared.Plan.{Plan}
+use Rattle.steps.specs.declared.Planned.{Planned}
+use Rattle.steps.specs.declared.Planned.the-variants.{Stop, Go}
+use Rattle.steps.proofs.Plans.{plan-in-range}
 use Rattle.plans.specs.Prepares.{plannedFor}
 
 pub prepare-unique : (s : Settings) (x : List ℕ) (w : ℕ) (q r : Planned) → q ≡ plannedFor s x w → r ≡ plannedFor s x w → q ≡ r
 prepare-unique s x w q r e h = only-one e h
 
-pub allowed-planned : (s : Settings) (x : List ℕ) (w : ℕ) → isLengthAllowed (s .vl) ≡ true → plannedFor s x w ≡ planned s x w
+pub allowed-planned : (s : Settings) (x : List ℕ) (w : ℕ) → isLengthAllowed (s .vl) ≡ true → plannedFor s x w ≡ plannedOf s x w
 unfolding plannedFor
 allowed-planned s x w h = rw h
 
@@ -59,10 +59,10 @@ module _ (s : Settings) (x : List ℕ) (P : Plan → Type 0)
   of-word Undefined h = tt
   of-word (Is i) h = of-load i h
 
-  pub planned-each : (w : ℕ) (p : Plan) → planned s x w ≡ Go p → P p
-  unfolding planned
+  pub planned-each : (w : ℕ) (p : Plan) → plannedOf s x w ≡ Go p → P p
+  unfolding plannedOf
   planned-each w p e = subst (Holding P) e (of-word (readOf w) (in-range w))
 
 -- a plan, where there is one, is sound
-pub planned-sound : (s : Settings) (x : List ℕ) → LengthAllowed (s .vl) → (w : ℕ) (p : Plan) → planned s x w ≡ Go p → Sound p
-planned-sound s x allowed = planned-each s x Sound (λ i h _. sound (s .vl) x allowed i h (i .shape) (h .shape))
+pub planned-in-range : (s : Settings) (x : List ℕ) → LengthAllowed (s .vl) → (w : ℕ) (p : Plan) → plannedOf s x w ≡ Go p → PlanInRange p
+planned-in-range s x allowed = planned-each s x PlanInRange (λ i h _. plan-in-range (s .vl) x allowed i h (i .shape) (h .shape))

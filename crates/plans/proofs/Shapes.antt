@@ -15,15 +15,15 @@ use Rattle.words.specs.declared.Insn.{Insn}
 use Rattle.words.specs.declared.Shape.{Shape}
 use Rattle.words.specs.declared.Shape.the-variants.{Replicate, ByElement, Contiguous, Block}
 use Rattle.words.specs.Ranges.{ShapeInRange}
-use Rattle.loads.specs.Terms.{blockBytes}
-use Rattle.loads.specs.Plans.{lanesIn, spreadOf, planWith}
-use Rattle.loads.specs.Said.{LengthAllowed}
-use Rattle.loads.specs.Steps.{isWide, planned}
-use Rattle.loads.specs.declared.Plan.{Plan}
-use Rattle.loads.specs.declared.Planned.the-variants.{Go}
-use Rattle.loads.specs.declared.Settings.{Settings}
-use Rattle.loads.proofs.Actives.{block-bytes}
-use Rattle.plans.specs.Shapes.{Shaped}
+use Rattle.steps.specs.Terms.{blockBytes}
+use Rattle.steps.specs.Plans.{lanesOf, spreadOf, planWith}
+use Rattle.steps.specs.Said.{LengthAllowed}
+use Rattle.steps.specs.Step.{isWide, plannedOf}
+use Rattle.steps.specs.declared.Plan.{Plan}
+use Rattle.steps.specs.declared.Planned.the-variants.{Go}
+use Rattle.steps.specs.declared.Settings.{Settings}
+use Rattle.steps.proofs.Actives.{block-bytes}
+use Rattle.plans.specs.Inside.{Shaped}
 use Rattle.plans.proofs.Prepares.{planned-each}
 
 -- a factor of some is some
@@ -43,9 +43,9 @@ module _ (vl : ℕ) (allowed : LengthAllowed vl) where
   block-in false long = (omega arith, omega arith)
 
   module _ (x : List ℕ) (i : Insn) where
-    pub shaped : (s : Shape) → ShapeInRange i s → (isWide s && ltb vl 256) ≡ false → Shaped (planWith i (spreadOf vl x i s)) (vl / 8)
+    pub plan-shaped : (s : Shape) → ShapeInRange i s → (isWide s && ltb vl 256) ≡ false → Shaped (planWith i (spreadOf vl x i s)) (vl / 8)
     unfolding spreadOf
-    shaped (Replicate q back) h long =
+    plan-shaped (Replicate q back) h long =
         let r = replicates (eqb q 1) in
         let n : ℕ = if eqb q 1 then 16 else 8 in
         let e = whole-lanes (i .element .lane) n (r .2) in
@@ -53,14 +53,14 @@ module _ (vl : ℕ) (allowed : LengthAllowed vl) where
           room = rw e (omega (arith, r .1));
           shape = (refl, rw e (r .0), ap (λ (d : Dtype). d .lane) (h .2), ap (λ (d : Dtype). d .signed) (h .2));
         }
-    shaped (ByElement imm6) h long =
+    plan-shaped (ByElement imm6) h long =
         let e = register-lanes (i .element .lane) vl (allowed .multiple) in
-        let some = factor-some (lanesIn vl (i .element .lane)) (bytesOf (i .element .lane)) (vl / 8) e (omega arith) in
+        let some = factor-some (lanesOf vl (i .element .lane)) (bytesOf (i .element .lane)) (vl / 8) e (omega arith) in
         record { room = rw e (omega arith); shape = (refl, some, rw e (omega arith)) }
-    shaped (Contiguous offset) h long =
+    plan-shaped (Contiguous offset) h long =
         let e = register-lanes (i .element .lane) vl (allowed .multiple) in
         record { room = rw e (omega arith); shape = (omega arith, rw e (omega arith)) }
-    shaped (Block wide offset) h long =
+    plan-shaped (Block wide offset) h long =
         let b = block-in wide long in
         let k = blockBytes wide / bytesOf (i .element .lane) in
         let e = whole-lanes (i .element .lane) (blockBytes wide) (block-bytes wide .0) in
@@ -69,6 +69,6 @@ module _ (vl : ℕ) (allowed : LengthAllowed vl) where
           shape = (omega (arith, one-mul k, mul-le-mul-right k (b .1)), rw e (block-bytes wide .0));
         }
 
-pub planned-shaped : (s : Settings) (x : List ℕ) → LengthAllowed (s .vl) → (w : ℕ) (p : Plan) → planned s x w ≡ Go p → Shaped p (s .vl / 8)
+pub planned-shaped : (s : Settings) (x : List ℕ) → LengthAllowed (s .vl) → (w : ℕ) (p : Plan) → plannedOf s x w ≡ Go p → Shaped p (s .vl / 8)
 planned-shaped s x allowed =
-    planned-each s x (λ p. Shaped p (s .vl / 8)) (λ i h long. shaped (s .vl) allowed x i (i .shape) (h .shape) long)
+    planned-each s x (λ p. Shaped p (s .vl / 8)) (λ i h long. plan-shaped (s .vl) allowed x i (i .shape) (h .shape) long)

@@ -1,3 +1,3 @@
 -- What `prepare` promises, and what its plans are.
 pub mod Prepares
-pub mod Shapes
+pub mod Inside

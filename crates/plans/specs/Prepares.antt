@@ -2,12 +2,12 @@
 use Prim.Native.Nat.{ℕ}
 use mathlib.Core.List.{List}
 use Rattle.ground.specs.Choices.{if_then_else_}
-use Rattle.loads.specs.Benches.{isLengthAllowed}
-use Rattle.loads.specs.Steps.{planned}
-use Rattle.loads.specs.declared.Settings.{Settings}
-use Rattle.loads.specs.declared.Planned.{Planned}
-use Rattle.loads.specs.declared.Planned.the-variants.{Stop}
-use Rattle.loads.specs.declared.Answer.the-variants.{SetUp}
+use Rattle.steps.specs.Benches.{isLengthAllowed}
+use Rattle.steps.specs.Step.{plannedOf}
+use Rattle.steps.specs.declared.Settings.{Settings}
+use Rattle.steps.specs.declared.Planned.{Planned}
+use Rattle.steps.specs.declared.Planned.the-variants.{Stop}
+use Rattle.steps.specs.declared.Answer.the-variants.{SetUp}
 
 unfoldable pub plannedFor : Settings → List ℕ → ℕ → Planned
-plannedFor s x w = if isLengthAllowed (s .vl) then planned s x w else Stop SetUp
+plannedFor s x w = if isLengthAllowed (s .vl) then plannedOf s x w else Stop SetUp

@@ -1,8 +1,8 @@
 // The plan of a load, family by family: where element 0 lies, its elements, and the lanes that take one.
 use ground::Size;
-use loads::Plan;
-use loads::Rule;
 use memory::Address;
+use steps::Plan;
+use steps::Rule;
 use words::Back;
 use words::Insn;
 use words::Offset;
@@ -13,8 +13,8 @@ ghost use Rattle.ground.specs.Sizes.{bytesOf};
 ghost use Rattle.words.specs.Ranges.{OffsetInRange, InsnInRange};
 ghost use Rattle.words.specs.declared.Shape.the-variants.{ByElement, Contiguous, Block};
 ghost use Rattle.memory.specs.Addresses.{wrap};
-ghost use Rattle.loads.specs.Terms as Terms;
-ghost use Rattle.loads.specs.Plans.{startOf, amountOf, writesBack, lanesIn, replicated, spreadOf, planWith, planOf};
+ghost use Rattle.steps.specs.Terms as Terms;
+ghost use Rattle.steps.specs.Plans.{startOf, amountOf, writesBack, lanesOf, replicated, spreadOf, planWith, planOf};
 
 // A scalar by its number: X0 to X30, SP, PC. Where there is none, 0.
 fn scalar(x: &[u64], n: u32) -> u64
@@ -141,7 +141,7 @@ fn replicate(x: &[u64], insn: Insn, q: u32, back: Back) -> Plan
 
 // N, the lanes of a register.
 fn lanes_in(vl: u64, lane: Size) -> u64
-    ensures { λ r. ⌜ r ≡ lanesIn vl lane ⌝ }
+    ensures { λ r. ⌜ r ≡ lanesOf vl lane ⌝ }
 {
     vl / (8 * lane.bytes())
 }

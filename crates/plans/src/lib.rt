@@ -1,9 +1,9 @@
 // What a word is about to do, from the settings and the scalars: an answer that stops it, or a plan. No predicate and no memory is in sight.
 mod families;
 
-use loads::Answer;
-use loads::Planned;
-use loads::Settings;
+use steps::Answer;
+use steps::Planned;
+use steps::Settings;
 use words::Decoded;
 use words::Insn;
 use words::Shape;
@@ -11,7 +11,7 @@ ghost use mathlib.Core.Path.{_≡_};
 ghost use mathlib.Core.Bool.{not};
 ghost use Prim.Native.Nat.{_≤_};
 ghost use Rattle.words.specs.Ranges.{InsnInRange};
-ghost use Rattle.loads.specs.Steps.{isWide, switchedOn, plannedLoad, planned};
+ghost use Rattle.steps.specs.Step.{isWide, switchedOn, plannedLoad, plannedOf};
 ghost use Rattle.plans.specs.Prepares.{plannedFor};
 
 // Whether a load is LD1RO.
@@ -62,7 +62,7 @@ fn plan_load(settings: Settings, x: &[u64], insn: Insn) -> Planned
 // A word: 2, 3 from the word alone, or what its load does.
 fn plan_word(settings: Settings, x: &[u64], word: u32) -> Planned
     requires { ⌜ settings .vl ≤ 2048 ⌝ }
-    ensures { λ r. ⌜ r ≡ planned settings (now (x .entry)) word ⌝ }
+    ensures { λ r. ⌜ r ≡ plannedOf settings (now (x .entry)) word ⌝ }
 {
     match words::read(word) {
         Decoded::Outside => Planned::Stop(Answer::Outside),
@@ -75,7 +75,7 @@ fn plan_word(settings: Settings, x: &[u64], word: u32) -> Planned
 pub fn prepare(settings: Settings, x: &[u64], word: u32) -> Planned
     ensures { λ r. ⌜ r ≡ plannedFor settings (now (x .entry)) word ⌝ }
 {
-    if loads::allowed(settings.vl) {
+    if steps::allowed(settings.vl) {
         return plan_word(settings, x, word);
     }
     Planned::Stop(Answer::SetUp)

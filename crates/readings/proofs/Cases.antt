@@ -7,15 +7,15 @@ use lib.ListN.{replicate}
 use Rattle.ground.specs.Choices.{if_then_else_}
 use Rattle.ground.specs.Lists.{listed}
 use Rattle.memory.specs.declared.Map.{Map}
-use Rattle.loads.specs.Answers.{Report}
-use Rattle.loads.specs.Benches.{Lent, Bench}
-use Rattle.loads.specs.Outcomes.{Outcome}
-use Rattle.loads.specs.Steps.{stepOf}
-use Rattle.loads.specs.declared.Settings.{Settings}
+use Rattle.steps.specs.Answers.{Report}
+use Rattle.steps.specs.Benches.{Lent, Bench}
+use Rattle.steps.specs.Outcomes.{Outcome}
+use Rattle.steps.specs.Step.{stepOf}
+use Rattle.steps.specs.declared.Settings.{Settings}
 
 -- A case: a word, the whole bench before it, and what is expected: the report, the whole vector file and all the scalars. RAM and
 -- what is lent are expected as they were.
-pub record Case : Type 0 where
+pub record StarredCase : Type 0 where
   pub word : ℕ
   pub lent : Lent
   pub bench : Bench
@@ -25,15 +25,15 @@ pub record Case : Type 0 where
 
 -- Comparing: every number of an outcome, and the length of every list.
 
-abbrev pub same : List ℕ → List ℕ → Bool
-same [] [] = true
-same [] (y ∷ ys) = false
-same (x ∷ xs) [] = false
-same (x ∷ xs) (y ∷ ys) = eqb x y && same xs ys
+abbrev pub sameNumbers : List ℕ → List ℕ → Bool
+sameNumbers [] [] = true
+sameNumbers [] (y ∷ ys) = false
+sameNumbers (x ∷ xs) [] = false
+sameNumbers (x ∷ xs) (y ∷ ys) = eqb x y && sameNumbers xs ys
 
-abbrev pub alike : Bool → Bool → Bool
-alike true b = b
-alike false b = not b
+abbrev pub sameBool : Bool → Bool → Bool
+sameBool true b = b
+sameBool false b = not b
 
 abbrev pub sameReport : Report → Report → Bool
 sameReport r t =
@@ -41,7 +41,7 @@ sameReport r t =
 
 abbrev pub sameSettings : Settings → Settings → Bool
 sameSettings s t =
-    eqb (s .vl) (t .vl) && alike (s .simd) (t .simd) && alike (s .sve) (t .sve) && alike (s .f64mm) (t .f64mm)
+    eqb (s .vl) (t .vl) && sameBool (s .simd) (t .simd) && sameBool (s .sve) (t .sve) && sameBool (s .f64mm) (t .f64mm)
 
 abbrev pub sameMap : Map → Map → Bool
 sameMap m n = eqb (m .flash .0) (n .flash .0) && eqb (m .ram .0) (n .ram .0)
@@ -49,26 +49,26 @@ sameMap m n = eqb (m .flash .0) (n .flash .0) && eqb (m .ram .0) (n .ram .0)
 abbrev pub sameLent : Lent → Lent → Bool
 sameLent l k =
     sameSettings (l .settings) (k .settings)
-    && same (l .predicates) (k .predicates)
+    && sameNumbers (l .predicates) (k .predicates)
     && sameMap (l .map) (k .map)
-    && same (l .flash) (k .flash)
-    && same (l .flashRights) (k .flashRights)
-    && same (l .ramRights) (k .ramRights)
+    && sameNumbers (l .flash) (k .flash)
+    && sameNumbers (l .flashRights) (k .flashRights)
+    && sameNumbers (l .ramRights) (k .ramRights)
 
-abbrev pub fits : Case → Outcome → Bool
-fits c o =
+abbrev pub outcomeFits : StarredCase → Outcome → Bool
+outcomeFits c o =
     sameReport (o .report) (c .report)
-    && same (o .bench .vectors) (c .vectors)
-    && same (o .bench .scalars) (c .scalars)
-    && same (o .bench .ram) (c .bench .ram)
+    && sameNumbers (o .bench .vectors) (c .vectors)
+    && sameNumbers (o .bench .scalars) (c .scalars)
+    && sameNumbers (o .bench .ram) (c .bench .ram)
     && sameLent (o .lent) (c .lent)
 
-abbrev pub right : Case → Bool
-right c = fits c (stepOf (c .lent) (c .word) (c .bench))
+abbrev pub isRight : StarredCase → Bool
+isRight c = outcomeFits c (stepOf (c .lent) (c .word) (c .bench))
 
-abbrev pub allRight : List Case → Bool
+abbrev pub allRight : List StarredCase → Bool
 allRight [] = true
-allRight (c ∷ cs) = right c && allRight cs
+allRight (c ∷ cs) = isRight c && allRight cs
 
 -- Files: register r of the old vector file is 160 + r in every byte, so that a register in another's place shows.
 
@@ -88,11 +88,11 @@ abbrev pub ones : ℕ → ℕ → List ℕ
 ones vl r = replicate (vl / 64) 255
 
 -- every lane of every predicate is active, or none; or predicate register t holds these bytes among registers of ones
-abbrev pub every : ℕ → List ℕ
-every vl = registers (ones vl) 0 16
+abbrev pub allActive : ℕ → List ℕ
+allActive vl = registers (ones vl) 0 16
 
-abbrev pub none : ℕ → List ℕ
-none vl = replicate (vl / 4) 0
+abbrev pub noneActive : ℕ → List ℕ
+noneActive vl = replicate (vl / 4) 0
 
 abbrev pub only : ℕ → ℕ → List ℕ → List ℕ
 only vl t bytes = fileWith (ones vl) 16 t bytes
@@ -130,20 +130,20 @@ pub record Zone : Type 0 where
   pub bytes : List ℕ
   pub rights : List ℕ
 
-abbrev pub zone : ℕ → List ℕ → List ℕ → Zone
-zone a bs rs = record { start = a; bytes = bs; rights = rs }
+abbrev pub zoneWith : ℕ → List ℕ → List ℕ → Zone
+zoneWith a bs rs = record { start = a; bytes = bs; rights = rs }
 
 abbrev pub empty : Zone
-empty = zone 0 [] []
+empty = zoneWith 0 [] []
 
 -- one page at 4,096, with the read right
 abbrev pub page : List ℕ → Zone
-page bs = zone 4096 bs (1 ∷ [])
+page bs = zoneWith 4096 bs (1 ∷ [])
 
 -- Settings
 
-abbrev pub on : ℕ → Settings
-on vl = record { vl = vl; simd = true; sve = true; f64mm = true }
+abbrev pub allOn : ℕ → Settings
+allOn vl = record { vl = vl; simd = true; sve = true; f64mm = true }
 
 abbrev pub sveOff : ℕ → Settings
 sveOff vl = record { vl = vl; simd = true; sve = false; f64mm = true }
@@ -163,8 +163,8 @@ pub record SetUp : Type 0 where
   pub ram : Zone
   pub named : List Named
 
-abbrev pub setUp : Settings → List ℕ → Zone → Zone → List Named → SetUp
-setUp s p f r ms = record { settings = s; predicates = p; flash = f; ram = r; named = ms }
+abbrev pub setUpWith : Settings → List ℕ → Zone → Zone → List Named → SetUp
+setUpWith s p f r ms = record { settings = s; predicates = p; flash = f; ram = r; named = ms }
 
 abbrev pub lentBy : SetUp → Lent
 lentBy u =
@@ -188,7 +188,7 @@ benchBy u =
 -- Outcomes
 
 -- "ran": a count, register t's bytes, and the scalars that change beside PC, which grows from 1,000 to 1,004 where it is not named
-abbrev pub ran : ℕ → SetUp → ℕ → ℕ → List ℕ → List Named → Case
+abbrev pub ran : ℕ → SetUp → ℕ → ℕ → List ℕ → List Named → StarredCase
 ran w u count t bytes changed =
     record {
       word = w;
@@ -200,7 +200,7 @@ ran w u count t bytes changed =
     }
 
 -- any other answer, with its count, lane and address: "changes no byte or number of the bench"
-abbrev pub faults : ℕ → SetUp → ℕ → ℕ → ℕ → ℕ → Case
+abbrev pub faults : ℕ → SetUp → ℕ → ℕ → ℕ → ℕ → StarredCase
 faults w u number count lane address =
     record {
       word = w;
@@ -211,7 +211,7 @@ faults w u number count lane address =
       scalars = scalarsOf (old (u .named));
     }
 
-abbrev pub refuses : ℕ → SetUp → ℕ → Case
+abbrev pub refuses : ℕ → SetUp → ℕ → StarredCase
 refuses w u number = faults w u number 0 0 0
 
 -- Bytes
@@ -236,4 +236,4 @@ copies (suc n) l = l ++ copies n l
 
 -- "X0 is in readable memory and all lanes named are active": X0 at 4,096, 32 readable bytes, every lane active
 abbrev pub plain : Settings → SetUp
-plain s = setUp s (every (s .vl)) (page (rising 1 32)) empty (0 ≔ 4096 ∷ [])
+plain s = setUpWith s (allActive (s .vl)) (page (rising 1 32)) empty (0 ≔ 4096 ∷ [])

@@ -8,7 +8,7 @@ use crate::found::repeated;
 use crate::found::zero_from;
 use crate::rows::Row;
 use crate::rows::Tell;
-use loads::StepResult;
+use steps::StepResult;
 use texts::Text;
 
 // What a step answered and left: X0, how far PC went, whether Z0 is as it was, and whether the other registers and X1 to SP are.

@@ -5,10 +5,10 @@ use crate::phrases;
 use crate::phrases::Seen;
 use crate::rows::Row;
 use crate::setups;
-use loads::Settings;
-use loads::StepResult;
 use memory::Address;
 use memory::Map;
+use steps::Settings;
+use steps::StepResult;
 use texts::Text;
 
 // Lends what a row asks and steps: flash at 0, RAM at the end, every page readable but for flash's page 1 where the row says so.

@@ -89,7 +89,7 @@ fn all_cases(stream: &mut [u8], out: &mut [u8]) {
 }
 
 fn main() {
-    // the longest case, and the longest outcome: `longest` of crates/cases/proofs/Limits.antt
+    // the longest case, and the longest outcome: `longest-case` of crates/cases/proofs/Limits.antt
     let mut stream = [0u8; 333024];
     let mut out = [0u8; 66585];
     all_cases(&mut stream, &mut out);

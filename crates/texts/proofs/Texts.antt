@@ -11,7 +11,7 @@ use lib.Dec.{eqb, ltb, lit<}
 use lib.ListN.{length, take, drop, take-append-drop}
 use lib.Seq.{take-all}
 use Rattle.ground.specs.Lists.{replaced}
-use Rattle.ground.proofs.Laws.{and-left, and-right, both, never, off, true-or-false}
+use Rattle.ground.proofs.Laws.{and-left, and-right, and-both, never, off, true-or-false}
 use Rattle.ground.proofs.Fills.{back-in}
 use Rattle.io.specs.Digits.{digits, Fewest}
 use Rattle.texts.specs.Texts.{andOf, placesOf, decimalOf, alike}
@@ -60,7 +60,7 @@ all-there xs n size =
 
 alike-self : (s : List ℕ) → alike s s ≡ true
 alike-self [] = refl
-alike-self (a ∷ s) = both (eqb a a) (alike s s) (eq-eqb a a refl) (alike-self s)
+alike-self (a ∷ s) = and-both (eqb a a) (alike s s) (eq-eqb a a refl) (alike-self s)
 
 alike-same : (s t : List ℕ) → alike s t ≡ true → s ≡ t
 alike-same [] [] h = refl

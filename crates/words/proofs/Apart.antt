@@ -13,9 +13,9 @@ use borrow.Author.Tests.{eqb-true, leb-true, eq-eqb, not-true}
 use Rattle.ground.specs.Choices.{allOf}
 use Rattle.ground.specs.Lists.{anyBelow}
 use Rattle.ground.specs.Pieces.{bits}
-use Rattle.ground.proofs.Laws.{never, off, or-cases, and-left, and-right, both, all-of, all, any-at}
+use Rattle.ground.proofs.Laws.{never, off, or-cases, and-left, and-right, and-both, all-of, all, any-at}
 use Rattle.ground.proofs.Pieces.{halves}
-use Rattle.words.specs.Families.{Fixed, fixed, tests, fits, FamilyRow, _⇨_, families, readBy, readOf}
+use Rattle.words.specs.Families.{Fixed, bitsAre, tests, fits, FamilyRow, _⇨_, families, readBy, readOf}
 use Rattle.words.specs.Insns.{Outside, Undefined}
 
 -- ---- Two rows that fix a bit to different values
@@ -162,7 +162,7 @@ row-reads w k l t = place-reads w families families-apart k (record { there = l;
 pub clashing-outside : (fs : List Fixed) → all (clash (fs ⇨ (λ w. Outside))) families ≡ true → (w : ℕ) → fits w fs ≡ true → readOf w ≡ Outside
 unfolding readOf
 clashing-outside fs c w t =
-    ⊎-elim (λ h. absurd (first-only w (fs ⇨ (λ w. Outside)) families (both _ _ c families-apart) (h .0) (h .1) t)) (λ n. n .1) (found w families)
+    ⊎-elim (λ h. absurd (first-only w (fs ⇨ (λ w. Outside)) families (and-both _ _ c families-apart) (h .0) (h .1) t)) (λ n. n .1) (found w families)
 
 -- A table with all its rows, in any order and with whichever others that clash, reads every word that was not outside as before;
 pub settled : (rows : List FamilyRow) → apart rows ≡ true → Among families rows → (w : ℕ) → (readOf w ≡ Outside → ⊥) → readBy rows w ≡ readOf w
@@ -203,7 +203,7 @@ any-order rows m n w =
 -- A witness that the premises can be met: our table with one row more in front, that of a prefetch, which is not wanted. The rows clash, and
 -- the prefetch's word 85C00000 is outside.
 abbrev another : FamilyRow
-another = (fixed 31 25 0b1000010 ∷ fixed 24 22 0b111 ∷ fixed 15 15 0b0 ∷ fixed 4 4 0b0 ∷ []) ⇨ (λ w. Undefined)
+another = (bitsAre 31 25 0b1000010 ∷ bitsAre 24 22 0b111 ∷ bitsAre 15 15 0b0 ∷ bitsAre 4 4 0b0 ∷ []) ⇨ (λ w. Undefined)
 
 abbrev longer : List FamilyRow
 longer = another ∷ families

@@ -8,7 +8,7 @@ use Rattle.words.specs.Families.{readOf}
 use Rattle.words.specs.Layouts.{Family, undefinedIn, insnOf, meansOf, Written}
 use Rattle.words.specs.Insns.{Decoded, Outside, Undefined, Is}
 use Rattle.words.proofs.Layouts.{reads}
-use Rattle.words.proofs.Written.{written}
+use Rattle.words.proofs.Written.{written-out}
 
 abbrev Inside : Decoded → Type 0
 Inside Outside = ⊥
@@ -28,11 +28,11 @@ module _ (w : ℕ) (small : w < 2 ^ 32) where
     where
       go : (d : Decoded) → readOf w ≡ d → (Written w → ⊥) → readOf w ≡ Outside
       go Outside e h = e
-      go Undefined e h = absurd (h (written w small (λ o. subst Inside (sym e ∙ o) tt)))
-      go (Is i) e h = absurd (h (written w small (λ o. subst Inside (sym e ∙ o) tt)))
+      go Undefined e h = absurd (h (written-out w small (λ o. subst Inside (sym e ∙ o) tt)))
+      go (Is i) e h = absurd (h (written-out w small (λ o. subst Inside (sym e ∙ o) tt)))
 
   pub decodes-exactly : (d : Decoded) → (d ≡ Outside → ⊥) → (readOf w ≡ d) ↔ ((x : Written w) × (meansOf (x .0) ≡ d))
   decodes-exactly d h = (
-    λ e. let x = written w small (λ o. h (sym e ∙ o)) in (x, sym (read-written x) ∙ e),
+    λ e. let x = written-out w small (λ o. h (sym e ∙ o)) in (x, sym (read-written x) ∙ e),
     λ y. read-written (y .0) ∙ y .1,
   )

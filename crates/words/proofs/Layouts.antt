@@ -1,6 +1,6 @@
 -- The family table from the writing side: for every number that fits its field, the word that a row of the scope of work lays out reads as
 -- that row and with those numbers. A fixed bit, a place or a field of `families` that is wrong is refused by the clause of its row, which names
--- no other; a fixed bit that is left out, by `written`, and by `families-apart` where another row then fits too.
+-- no other; a fixed bit that is left out, by `written-out`, and by `families-apart` where another row then fits too.
 use Prim.Native.Nat.{ℕ}
 use mathlib.Core.Path.{_≡_, refl, _∙_}
 use mathlib.Core.Bool.{true, false}
@@ -9,14 +9,14 @@ use Rattle.ground.specs.declared.Size.{Size}
 use Rattle.ground.specs.Pieces.{word, FitWidths}
 use Rattle.ground.proofs.Pieces.{Placed, laid, joined}
 use Rattle.words.specs.Dtypes.{plainOf}
-use Rattle.words.specs.Insns.{insn, Shape, Governing, Dtype}
+use Rattle.words.specs.Insns.{insnWith, Shape, Governing, Dtype}
 use Rattle.words.specs.Families.{scalarOf, families, readOf}
 use Rattle.words.specs.Layouts.{Family, layout, meansOf}
 use Rattle.words.specs.Layouts.Family.{ld1r-keep, ld1r-post, ld1r-element, ld1-immediate, ld1-scalar, block-immediate, block-scalar}
 use Rattle.words.proofs.Apart.{row-reads}
 
 -- the parts of an instruction are where their names say
-pub insn-parts : (d : Dtype) (g : Governing) (rn rt : ℕ) (s : Shape) → let i = insn d g rn rt s in
+pub insn-parts : (d : Dtype) (g : Governing) (rn rt : ℕ) (s : Shape) → let i = insnWith d g rn rt s in
     (i .element ≡ d) × (i .governing ≡ g) × (i .base ≡ rn) × (i .target ≡ rt) × (i .shape ≡ s)
 insn-parts d g rn rt s = (refl, refl, refl, refl, refl)
 

@@ -1,6 +1,6 @@
 -- The laws of the two tables.
 pub mod Ranges
-pub mod Rule
+pub mod DtypeRule
 pub mod Unique
 pub mod Apart
 pub mod Layouts

@@ -4,7 +4,7 @@ use mathlib.Core.Path.{_≡_, refl}
 use mathlib.Core.List.{List, [], _∷_}
 use Rattle.ground.specs.Pieces.{Piece, _▹_, word, FitWidths}
 use Rattle.ground.proofs.Pieces.{Placed, laid}
-use Rattle.words.specs.Families.{fixed, families, readOf}
+use Rattle.words.specs.Families.{bitsAre, families, readOf}
 use Rattle.words.specs.Insns.{Outside}
 use Rattle.words.proofs.Apart.{clashing-outside}
 
@@ -31,7 +31,7 @@ not-wanted-outside x fit = placed x (word (notWantedLayout x)) (laid (notWantedL
   where
     -- each has bits that every row of the table fixes otherwise
     placed : (x : NotWanted) (w : ℕ) → Placed w (notWantedLayout x) → readOf w ≡ Outside
-    placed (quad-immediate msz imm4 pg rn zt) w p = clashing-outside (fixed 31 25 0b1010010 ∷ fixed 20 20 0b1 ∷ fixed 15 13 0b001 ∷ []) refl w (cc)
-    placed (quad-scalar msz rm pg rn zt) w p = clashing-outside (fixed 31 25 0b1010010 ∷ fixed 15 13 0b100 ∷ []) refl w (cc)
-    placed (prefetch-immediate imm6 msz pg rn op) w p = clashing-outside (fixed 31 25 0b1000010 ∷ fixed 15 15 0b0 ∷ []) refl w (cc)
-    placed (prefetch-scalar msz rm pg rn op) w p = clashing-outside (fixed 31 25 0b1000010 ∷ fixed 22 21 0b00 ∷ []) refl w (cc)
+    placed (quad-immediate msz imm4 pg rn zt) w p = clashing-outside (bitsAre 31 25 0b1010010 ∷ bitsAre 20 20 0b1 ∷ bitsAre 15 13 0b001 ∷ []) refl w (cc)
+    placed (quad-scalar msz rm pg rn zt) w p = clashing-outside (bitsAre 31 25 0b1010010 ∷ bitsAre 15 13 0b100 ∷ []) refl w (cc)
+    placed (prefetch-immediate imm6 msz pg rn op) w p = clashing-outside (bitsAre 31 25 0b1000010 ∷ bitsAre 15 15 0b0 ∷ []) refl w (cc)
+    placed (prefetch-scalar msz rm pg rn op) w p = clashing-outside (bitsAre 31 25 0b1000010 ∷ bitsAre 22 21 0b00 ∷ []) refl w (cc)

@@ -9,16 +9,16 @@ use Rattle.ground.proofs.Laws.{if-cases, first-each}
 use Rattle.ground.specs.Sizes.{bytesOf, sizeOf}
 use Rattle.ground.specs.Pieces.{bits}
 use Rattle.words.specs.Dtypes.{plainOf}
-use Rattle.words.specs.Insns.{insn, Shape, Replicate, ByElement, Contiguous, Block, None, By, Dtype, Offset, Back, Post, Decoded, Outside, Undefined, Is}
+use Rattle.words.specs.Insns.{insnWith, Shape, Replicate, ByElement, Contiguous, Block, None, By, Dtype, Offset, Back, Post, Decoded, Outside, Undefined, Is}
 use Rattle.words.specs.Families.{replicateOf, sveOf, byElementOf, contiguousOf, blockOf, immediate, register, scalarOf, families, choices, readOf}
 use Rattle.words.specs.Ranges.{OffsetInRange, BackInRange, Governed, ShapeInRange, InsnInRange, InRange}
-use Rattle.words.proofs.Rule.{never-wider}
+use Rattle.words.proofs.DtypeRule.{never-wider}
 
 module _ (w : ℕ) where
   replicate-in : (back : Back) → BackInRange back → InRange (replicateOf back w)
   replicate-in back h =
       if-cases InRange (eqb (bits w 22 22) 0 || eqb (bits w 12 12) 1) Undefined
-      (Is (insn (plainOf (sizeOf (bits w 11 10))) None (bits w 9 5) (bits w 4 0) (Replicate (bits w 30 30) back))) (λ _. tt)
+      (Is (insnWith (plainOf (sizeOf (bits w 11 10))) None (bits w 9 5) (bits w 4 0) (Replicate (bits w 30 30) back))) (λ _. tt)
       (λ _. record { narrower = omega arith; base = omega arith; target = omega arith; shape = (omega arith, h, refl, refl) })
 
   post-in : InRange (replicateOf (Post (bits w 20 16)) w)

@@ -26,9 +26,9 @@ module _ (w : ℕ) (h : w < 2 ^ 32) where
   row : (f : Family) {d : Decoded} → w < 2 ^ widths (layout f) → Placed w (layout f) → Found d
   row f l q _ = (f, placed-fit (layout f) w q, relaid (layout f) w l q)
 
-  pub written : (readOf w ≡ Outside → ⊥) → Written w
+  pub written-out : (readOf w ≡ Outside → ⊥) → Written w
   unfolding readOf families
-  written =
+  written-out =
       first-each Found (choices families w) Outside
       ((λ t.
       let a = halves w 23 6 1 0b0011010 (search met) in

@@ -7,18 +7,18 @@ use Rattle.ground.specs.Choices.{if_then_else_, allOf, Row, _⇒_, firstOf}
 use Rattle.ground.specs.Sizes.{sizeOf}
 use Rattle.ground.specs.Pieces.{bits}
 use Rattle.words.specs.Dtypes.{plainOf, dtypeOf}
-use Rattle.words.specs.Insns.{insn, Insn, Shape, Replicate, ByElement, Contiguous, Block, None, By, Dtype, Offset, Imm, Reg, Back, Keep, Post}
+use Rattle.words.specs.Insns.{insnWith, Insn, Shape, Replicate, ByElement, Contiguous, Block, None, By, Dtype, Offset, Imm, Reg, Back, Keep, Post}
 use Rattle.words.specs.Insns.{Decoded, Outside, Undefined, Is}
 
 -- LD1R: L=0 or S=1 is undefined
 abbrev pub replicateOf : Back → ℕ → Decoded
 replicateOf back w =
     if eqb (bits w 22 22) 0 || eqb (bits w 12 12) 1 then Undefined
-    else Is (insn (plainOf (sizeOf (bits w 11 10))) None (bits w 9 5) (bits w 4 0) (Replicate (bits w 30 30) back))
+    else Is (insnWith (plainOf (sizeOf (bits w 11 10))) None (bits w 9 5) (bits w 4 0) (Replicate (bits w 30 30) back))
 
 -- what every SVE word has: a governing predicate, a base and a target
 abbrev pub sveOf : ℕ → Dtype → Shape → Insn
-sveOf w element shape = insn element (By (bits w 12 10)) (bits w 9 5) (bits w 4 0) shape
+sveOf w element shape = insnWith element (By (bits w 12 10)) (bits w 9 5) (bits w 4 0) shape
 
 -- LD1R by element: dtype is dh then dl
 abbrev pub byElementOf : ℕ → Decoded
@@ -48,8 +48,8 @@ pub record Fixed : Type 0 where
   pub lo : ℕ
   pub is : ℕ
 
-abbrev pub fixed : ℕ → ℕ → ℕ → Fixed
-fixed hi lo v = record { hi = hi; lo = lo; is = v }
+abbrev pub bitsAre : ℕ → ℕ → ℕ → Fixed
+bitsAre hi lo v = record { hi = hi; lo = lo; is = v }
 
 abbrev pub tests : ℕ → List Fixed → List Bool
 tests w [] = []
@@ -71,15 +71,15 @@ fs ⇨ means = record { bits = fs; means = means }
 -- the nine rows, in the order of the scope of work; no word fits two (`one-row` of Apart), so that their order says nothing
 unfoldable pub families : List FamilyRow
 families =
-    ((fixed 31 31 0b0 ∷ fixed 29 23 0b0011010 ∷ fixed 21 13 0b000000110 ∷ []) ⇨ replicateOf Keep)
-    ∷ ((fixed 31 31 0b0 ∷ fixed 29 23 0b0011011 ∷ fixed 21 21 0b0 ∷ fixed 15 13 0b110 ∷ []) ⇨ (λ w. replicateOf (Post (bits w 20 16)) w))
-    ∷ ((fixed 31 25 0b1000010 ∷ fixed 22 22 0b1 ∷ fixed 15 15 0b1 ∷ []) ⇨ byElementOf)
-    ∷ ((fixed 31 25 0b1010010 ∷ fixed 20 20 0b0 ∷ fixed 15 13 0b101 ∷ []) ⇨ (λ w. contiguousOf (immediate w) w))
-    ∷ ((fixed 31 25 0b1010010 ∷ fixed 15 13 0b010 ∷ []) ⇨ (λ w. scalarOf w (contiguousOf (register w) w)))
-    ∷ ((fixed 31 25 0b1010010 ∷ fixed 22 20 0b000 ∷ fixed 15 13 0b001 ∷ []) ⇨ (λ w. blockOf false (immediate w) w))
-    ∷ ((fixed 31 25 0b1010010 ∷ fixed 22 21 0b00 ∷ fixed 15 13 0b000 ∷ []) ⇨ (λ w. scalarOf w (blockOf false (register w) w)))
-    ∷ ((fixed 31 25 0b1010010 ∷ fixed 22 20 0b010 ∷ fixed 15 13 0b001 ∷ []) ⇨ (λ w. blockOf true (immediate w) w))
-    ∷ ((fixed 31 25 0b1010010 ∷ fixed 22 21 0b01 ∷ fixed 15 13 0b000 ∷ []) ⇨ (λ w. scalarOf w (blockOf true (register w) w)))
+    ((bitsAre 31 31 0b0 ∷ bitsAre 29 23 0b0011010 ∷ bitsAre 21 13 0b000000110 ∷ []) ⇨ replicateOf Keep)
+    ∷ ((bitsAre 31 31 0b0 ∷ bitsAre 29 23 0b0011011 ∷ bitsAre 21 21 0b0 ∷ bitsAre 15 13 0b110 ∷ []) ⇨ (λ w. replicateOf (Post (bits w 20 16)) w))
+    ∷ ((bitsAre 31 25 0b1000010 ∷ bitsAre 22 22 0b1 ∷ bitsAre 15 15 0b1 ∷ []) ⇨ byElementOf)
+    ∷ ((bitsAre 31 25 0b1010010 ∷ bitsAre 20 20 0b0 ∷ bitsAre 15 13 0b101 ∷ []) ⇨ (λ w. contiguousOf (immediate w) w))
+    ∷ ((bitsAre 31 25 0b1010010 ∷ bitsAre 15 13 0b010 ∷ []) ⇨ (λ w. scalarOf w (contiguousOf (register w) w)))
+    ∷ ((bitsAre 31 25 0b1010010 ∷ bitsAre 22 20 0b000 ∷ bitsAre 15 13 0b001 ∷ []) ⇨ (λ w. blockOf false (immediate w) w))
+    ∷ ((bitsAre 31 25 0b1010010 ∷ bitsAre 22 21 0b00 ∷ bitsAre 15 13 0b000 ∷ []) ⇨ (λ w. scalarOf w (blockOf false (register w) w)))
+    ∷ ((bitsAre 31 25 0b1010010 ∷ bitsAre 22 20 0b010 ∷ bitsAre 15 13 0b001 ∷ []) ⇨ (λ w. blockOf true (immediate w) w))
+    ∷ ((bitsAre 31 25 0b1010010 ∷ bitsAre 22 21 0b01 ∷ bitsAre 15 13 0b000 ∷ []) ⇨ (λ w. scalarOf w (blockOf true (register w) w)))
     ∷ []
 
 -- each row's test of a word, with what the row says of it

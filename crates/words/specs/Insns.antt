@@ -14,6 +14,6 @@ pub use Rattle.words.specs.declared.Decoded.{Decoded}
 pub use Rattle.words.specs.declared.Decoded.the-variants.{Outside, Undefined, Is}
 
 -- an element's sizes and sign, the predicate that governs, base and target, and the shape
-abbrev pub insn : Dtype → Governing → ℕ → ℕ → Shape → Insn
-insn element governing base target shape =
+abbrev pub insnWith : Dtype → Governing → ℕ → ℕ → Shape → Insn
+insnWith element governing base target shape =
     record { element = element; base = base; target = target; governing = governing; shape = shape }

@@ -8,7 +8,7 @@ use Rattle.ground.specs.Choices.{if_then_else_}
 use Rattle.ground.specs.Sizes.{sizeOf}
 use Rattle.ground.specs.Pieces.{Piece, _▹_, word, FitWidths}
 use Rattle.words.specs.Dtypes.{plainOf, dtypeOf}
-use Rattle.words.specs.Insns.{insn, Insn, Replicate, ByElement, Contiguous, Block, None, By, Imm, Reg, Keep, Post, Decoded, Undefined, Is}
+use Rattle.words.specs.Insns.{insnWith, Insn, Replicate, ByElement, Contiguous, Block, None, By, Imm, Reg, Keep, Post, Decoded, Undefined, Is}
 
 -- a row with its fields: LD1R with no offset, post-index and by element; LD1; and a block's, which is LD1RQ, or LD1RO where it is wide
 pub data Family : Type 0 where
@@ -53,13 +53,13 @@ undefinedIn (block-scalar wide msz rm pg rn zt) = eqb rm 31
 
 -- the instruction of a row; "dtype is also dh then dl"
 abbrev pub insnOf : Family → Insn
-insnOf (ld1r-keep q l s size rn rt) = insn (plainOf (sizeOf size)) None rn rt (Replicate q Keep)
-insnOf (ld1r-post q l rm s size rn rt) = insn (plainOf (sizeOf size)) None rn rt (Replicate q (Post rm))
-insnOf (ld1r-element dh imm6 dl pg rn zt) = insn (dtypeOf (dh * 4 + dl)) (By pg) rn zt (ByElement imm6)
-insnOf (ld1-immediate dtype imm4 pg rn zt) = insn (dtypeOf dtype) (By pg) rn zt (Contiguous (Imm imm4))
-insnOf (ld1-scalar dtype rm pg rn zt) = insn (dtypeOf dtype) (By pg) rn zt (Contiguous (Reg rm))
-insnOf (block-immediate wide msz imm4 pg rn zt) = insn (plainOf (sizeOf msz)) (By pg) rn zt (Block wide (Imm imm4))
-insnOf (block-scalar wide msz rm pg rn zt) = insn (plainOf (sizeOf msz)) (By pg) rn zt (Block wide (Reg rm))
+insnOf (ld1r-keep q l s size rn rt) = insnWith (plainOf (sizeOf size)) None rn rt (Replicate q Keep)
+insnOf (ld1r-post q l rm s size rn rt) = insnWith (plainOf (sizeOf size)) None rn rt (Replicate q (Post rm))
+insnOf (ld1r-element dh imm6 dl pg rn zt) = insnWith (dtypeOf (dh * 4 + dl)) (By pg) rn zt (ByElement imm6)
+insnOf (ld1-immediate dtype imm4 pg rn zt) = insnWith (dtypeOf dtype) (By pg) rn zt (Contiguous (Imm imm4))
+insnOf (ld1-scalar dtype rm pg rn zt) = insnWith (dtypeOf dtype) (By pg) rn zt (Contiguous (Reg rm))
+insnOf (block-immediate wide msz imm4 pg rn zt) = insnWith (plainOf (sizeOf msz)) (By pg) rn zt (Block wide (Imm imm4))
+insnOf (block-scalar wide msz rm pg rn zt) = insnWith (plainOf (sizeOf msz)) (By pg) rn zt (Block wide (Reg rm))
 
 abbrev pub meansOf : Family → Decoded
 meansOf f = if undefinedIn f then Undefined else Is (insnOf f)

@@ -24,15 +24,15 @@ Governed (By g) = g < 8
 abbrev pub InTable : Dtype → Type 0
 InTable d = (n : ℕ) × (n < 16) × (d ≡ dtypeOf n)
 
-abbrev pub Plain : Dtype → Type 0
-Plain d = d ≡ plainOf (d .memory)
+abbrev pub AsWideAsLane : Dtype → Type 0
+AsWideAsLane d = d ≡ plainOf (d .memory)
 
 -- nothing governs LD1R, and every other load is governed
 abbrev pub ShapeInRange : Insn → Shape → Type 0
-ShapeInRange i (Replicate q back) = (q < 2) × BackInRange back × Plain (i .element) × (i .governing ≡ None)
+ShapeInRange i (Replicate q back) = (q < 2) × BackInRange back × AsWideAsLane (i .element) × (i .governing ≡ None)
 ShapeInRange i (ByElement imm6) = (imm6 < 64) × Governed (i .governing) × InTable (i .element)
 ShapeInRange i (Contiguous offset) = OffsetInRange offset × Governed (i .governing) × InTable (i .element)
-ShapeInRange i (Block wide offset) = OffsetInRange offset × Governed (i .governing) × Plain (i .element)
+ShapeInRange i (Block wide offset) = OffsetInRange offset × Governed (i .governing) × AsWideAsLane (i .element)
 
 pub record InsnInRange (i : Insn) : Type 0 where
   pub narrower : bytesOf (i .element .memory) ≤ bytesOf (i .element .lane)

@@ -3,8 +3,8 @@ use mathlib.Core.Path.{_≡_, sym, _∙_}
 use mathlib.Core.Bool.{true}
 use Prim.Native.Nat.{_≤_}
 use native.Mathlib.Omega.{arith}
-use Rattle.loads.specs.Benches.{isLengthAllowed}
-use Rattle.loads.proofs.Accepts.{length-exactly}
+use Rattle.steps.specs.Benches.{isLengthAllowed}
+use Rattle.steps.proofs.Accepts.{length-exactly}
 use Rattle.bench.proofs.files_accepted.Statement.{statement}
 use Rattle.bench.proofs.files_accepted.Tie as tie
 

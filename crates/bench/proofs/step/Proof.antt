@@ -1,7 +1,7 @@
 -- `step` meets its contract, StepPromise: what the set-up is tested for is the definition's, and then the word decides.
 use mathlib.Core.Path.{refl, _∙_}
 use mathlib.Core.Logic.{⊎-elim}
-use Rattle.ground.proofs.Laws.{both}
+use Rattle.ground.proofs.Laws.{and-both}
 use Rattle.bench.proofs.Ends.{accepts, steps, set-up}
 use Rattle.bench.proofs.step.Statement.{statement}
 use Rattle.bench.proofs.step.Tie as tie
@@ -9,13 +9,13 @@ use Rattle.bench.proofs.step.Tie as tie
 pub step-spec : {M : Type 1} → statement M
 step-spec =
     tie.close (tie.spec (λ c κs. tt) (λ c κs. tt)
-    (λ c κs. let t = c .before .before in accepts _ _ 0 _ _ (t .before .before .before .files-accepted .ensures) (t .before .taken .ensures)
-    ∙ both _ _ (t .before .before .if1 .taken) (t .if2 .taken))
+    (λ c κs. let t = c .before .before in accepts _ _ 0 _ _ (t .before .before .before .files-accepted .ensures) (t .before .areas-accepted .ensures)
+    ∙ and-both _ _ (t .before .before .if1 .taken) (t .if2 .taken))
     (λ c. c .before .before .before .z .given) (λ c. c .before .x .given)
     (λ c.
     let t = c .before .before .before .before .before .before .before in
-    steps _ _ _ (accepts _ _ 0 _ _ (t .before .before .before .files-accepted .ensures) (t .before .taken .ensures)
-    ∙ both _ _ (t .before .before .if1 .taken) (t .if2 .taken)) _ _ (c .before .before .before .before .accepted-step .ensures))
+    steps _ _ _ (accepts _ _ 0 _ _ (t .before .before .before .files-accepted .ensures) (t .before .areas-accepted .ensures)
+    ∙ and-both _ _ (t .before .before .if1 .taken) (t .if2 .taken)) _ _ (c .before .before .before .before .accepted-step .ensures))
     (λ c κs. tt)
     (λ c.
     ⊎-elim

@@ -1,13 +1,13 @@
 -- `answer` meets its contract: what the bytes open with is answered.
 use mathlib.Core.Path.{sym, _∙_}
 use borrow.Author.Needs.{needs}
-use Rattle.cases.specs.Answers.{answered}
+use Rattle.cases.specs.Answers.{afterCase}
 use Rattle.cases.proofs.Limits.{within-limits}
 use Rattle.cases.proofs.answer.Statement.{statement}
 use Rattle.cases.proofs.answer.Tie as tie
 
 pub answer-spec : {M : Type 1} → statement M
-unfolding answered
+unfolding afterCase
 answer-spec =
     tie.close (tie.spec (λ c κs. tt) (λ c. c .match .keys1) (λ c. c .match .keys2)
     (λ c κs.

@@ -7,12 +7,12 @@ use Rattle.ground.specs.Lists.{bytesAt}
 use Rattle.lanes.specs.Lanes.{shownOf}
 use Rattle.lanes.specs.Said.{There}
 use Rattle.lanes.proofs.Tests.{there-exactly}
-use Rattle.lanes.proofs.Places.{bytes, in-word, fitting}
+use Rattle.lanes.proofs.Places.{bytes, in-word, lane-fitting}
 use Rattle.lanes.proofs.show.Statement.{statement}
 use Rattle.lanes.proofs.show.Tie as tie
 
 is-there : (c : tie.Then1) → let a = c .before .before .before .args in There (a .vl) (a .z .now) (a .register) (a .kind) (a .width) (a .lane)
-is-there c = there-exactly _ _ _ _ _ _ .0 (sym (c .before .there .ensures) ∙ c .if1 .taken)
+is-there c = there-exactly _ _ _ _ _ _ .0 (sym (c .before .lane-there .ensures) ∙ c .if1 .taken)
 
 -- the number of a lane's bytes: no lane has more than eight
 gathered : (c : tie.Then1) (v at : ℕ) → v ≡ bytesAt (c .before .before .before .args .z .now) at (min (c .before .before .before .args .width / 8) 8)
@@ -30,9 +30,9 @@ show-spec =
     (λ c. search needs) (λ c κs. tt)
     (λ c κs.
     rw (gathered (c .before .before) _ _ (c .number .ensures .0), c .before .place .ensures)
-    (fitting (is-there (c .before .before)) (λ k. omega (arith, c .before .before .before .before .shared-slice-known .given k))))
+    (lane-fitting (is-there (c .before .before)) (λ k. omega (arith, c .before .before .before .before .shared-slice-known .given k))))
     (λ c.
     let t = c .before .before .before in
-    rw (sym (t .before .there .ensures) ∙ t .if1 .taken)
-    (rw (← c .before .before .place .ensures, ← gathered t _ _ (c .before .number .ensures .0)) (c .told .ensures)))
-    (λ c. rw (sym (c .before .there .ensures) ∙ c .if1 .left)))
+    rw (sym (t .before .lane-there .ensures) ∙ t .if1 .taken)
+    (rw (← c .before .before .place .ensures, ← gathered t _ _ (c .before .number .ensures .0)) (c .as-asked .ensures)))
+    (λ c. rw (sym (c .before .lane-there .ensures) ∙ c .if1 .left)))

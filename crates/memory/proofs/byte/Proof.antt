@@ -2,7 +2,7 @@
 use mathlib.Core.Path.{sym, _∙_}
 use borrow.Author.Needs.{needs}
 use Rattle.memory.specs.Bytes.{lookOf}
-use Rattle.memory.proofs.Places.{within}
+use Rattle.memory.proofs.Places.{place-within}
 use Rattle.memory.proofs.byte.Statement.{statement}
 use Rattle.memory.proofs.byte.Tie as tie
 
@@ -13,13 +13,13 @@ enum-known-k : tie.Need-enum-known-k
 enum-known-k c = search needs
 
 judge-requires : tie.Need-judge-requires
-judge-requires c κs = within _ _ _ _ _ _ (sym (c .before .before .before .locate .ensures) ∙ c .before .k .given .1)
+judge-requires c κs = place-within _ _ _ _ _ _ (sym (c .before .before .before .locate .ensures) ∙ c .before .k .given .1)
 
 enum-known-k-2 : tie.Need-enum-known-k-2
 enum-known-k-2 c = search needs
 
 judge-requires-2 : tie.Need-judge-requires-2
-judge-requires-2 c κs = within _ _ _ _ _ _ (sym (c .before .before .before .locate .ensures) ∙ c .before .k2 .given .1)
+judge-requires-2 c κs = place-within _ _ _ _ _ _ (sym (c .before .before .before .locate .ensures) ∙ c .before .k2 .given .1)
 
 enum-told : tie.Need-enum-told
 enum-told c = search needs

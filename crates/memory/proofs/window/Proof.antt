@@ -15,14 +15,14 @@ use Rattle.memory.proofs.window.Tie as tie
 part-of : (s : RefT (List ℕ)) (k e name : ℕ) → PartOf s (slPart s (byByte k (s .ptr .1)) k e name) k e
 part-of s k e name = record { bytes = refl; block = refl; offset = add-comm k (s .ptr .1) }
 
-shown-requires : tie.Need-shown-requires
-shown-requires c κs = tt
+shown-place-requires : tie.Need-shown-place-requires
+shown-place-requires c κs = tt
 
 enum-known-k : tie.Need-enum-known-k
 enum-known-k c = c .match .keys1
 
 sub-result : tie.Need-sub-result
-sub-result c = le-of-lt (shown-within _ _ _ (sym (c .before .before .before .shown .ensures) ∙ c .before .k .given .1))
+sub-result c = le-of-lt (shown-within _ _ _ (sym (c .before .before .before .shown-place .ensures) ∙ c .before .k .given .1))
 
 part-result-start : tie.Need-part-result-start
 part-result-start c = sub-result c
@@ -34,7 +34,7 @@ enum-known-k-2 : tie.Need-enum-known-k-2
 enum-known-k-2 c = c .match .keys2
 
 sub-shorter : tie.Need-sub-shorter
-sub-shorter c = le-of-lt (shown-within _ _ _ (sym (c .before .before .before .shown .ensures) ∙ c .before .k2 .given .1))
+sub-shorter c = le-of-lt (shown-within _ _ _ (sym (c .before .before .before .shown-place .ensures) ∙ c .before .k2 .given .1))
 
 part-shorter-start : tie.Need-part-shorter-start
 part-shorter-start c = sub-shorter c
@@ -58,20 +58,20 @@ part-result-end-2 : tie.Need-part-result-end-2
 part-result-end-2 c = zero-le
 
 returns : tie.Need-returns
-returns c = rw (sym (c .before .before .before .before .shown .ensures) ∙ c .before .before .k .given .1) (part-of _ _ _ _)
+returns c = rw (sym (c .before .before .before .before .shown-place .ensures) ∙ c .before .before .k .given .1) (part-of _ _ _ _)
 
 returns-2 : tie.Need-returns-2
 returns-2 c =
-    rw (sym (c .before .before .before .before .before .shown .ensures) ∙ c .before .before .before .k2 .given .1, c .shorter .ensures) (part-of _ _ _ _)
+    rw (sym (c .before .before .before .before .before .shown-place .ensures) ∙ c .before .before .before .k2 .given .1, c .shorter .ensures) (part-of _ _ _ _)
 
 returns-3 : tie.Need-returns-3
-returns-3 c = rw (sym (c .before .before .before .shown .ensures) ∙ c .before .enum-told .given .1) (part-of _ _ _ _)
+returns-3 c = rw (sym (c .before .before .before .shown-place .ensures) ∙ c .before .enum-told .given .1) (part-of _ _ _ _)
 
 pub window-spec : {M : Type 1} → statement M
 window-spec =
     tie.close
     (tie.spec
-    shown-requires
+    shown-place-requires
     enum-known-k
     sub-result
     part-result-start

@@ -1,7 +1,7 @@
 -- `plan_load` meets its contract: its tests are the definition's, in their order.
 use mathlib.Core.Path.{sym, ap, _∙_}
-use Rattle.loads.specs.Steps.{refusals, plannedLoad}
-use Rattle.loads.specs.declared.Planned.the-variants.{Go}
+use Rattle.steps.specs.Step.{refusals, plannedLoad}
+use Rattle.steps.specs.declared.Planned.the-variants.{Go}
 use Rattle.plans.proofs.plan_load.Statement.{statement}
 use Rattle.plans.proofs.plan_load.Tie as tie
 

@@ -2,12 +2,12 @@
 use mathlib.Core.Path.{sym, subst, _∙_}
 use Rattle.words.specs.Ranges.{InRange}
 use Rattle.words.proofs.Ranges.{in-range}
-use Rattle.loads.specs.Steps.{planned}
+use Rattle.steps.specs.Step.{plannedOf}
 use Rattle.plans.proofs.plan_word.Statement.{statement}
 use Rattle.plans.proofs.plan_word.Tie as tie
 
 pub plan-word-spec : {M : Type 1} → statement M
-unfolding planned
+unfolding plannedOf
 plan-word-spec =
     tie.close (tie.spec (λ c κs. tt) (λ c. c .match .keys1) (λ c. c .match .keys2) (λ c. c .match .keys3)
     (λ c κs.

@@ -1,6 +1,6 @@
 -- `prepare` meets its contract: an allowed length is small, and any other earns 1.
 use mathlib.Core.Path.{sym, _∙_}
-use Rattle.loads.proofs.Accepts.{length-exactly}
+use Rattle.steps.proofs.Accepts.{length-exactly}
 use Rattle.plans.specs.Prepares.{plannedFor}
 use Rattle.plans.proofs.prepare.Statement.{statement}
 use Rattle.plans.proofs.prepare.Tie as tie

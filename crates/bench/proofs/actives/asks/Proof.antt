@@ -3,8 +3,8 @@ use mathlib.Core.Path.{sym, ap, _∙_}
 use mathlib.Core.Bool.{Bool}
 use borrow.Author.Needs.{needs}
 use denote.Ref.{now}
-use Rattle.loads.specs.Lanes.{wantedBy, wanted}
-use Rattle.loads.specs.declared.Rule.{Rule}
+use Rattle.steps.specs.Lanes.{wantedBy, wanted}
+use Rattle.steps.specs.declared.Rule.{Rule}
 use Rattle.bench.proofs.actives.asks.Statement.{statement}
 use Rattle.bench.proofs.actives.asks.Tie as tie
 

@@ -6,12 +6,12 @@ use native.Mathlib.Numerals.{add-one}
 use native.Mathlib.Omega.{arith}
 use Rattle.ground.specs.Lists.{anyBelow}
 use Rattle.ground.proofs.Laws.{any-of}
-use Rattle.loads.specs.Lanes.{laneActive}
+use Rattle.steps.specs.Lanes.{isActive}
 use Rattle.bench.proofs.actives.some_active.Statement.{statement}
 use Rattle.bench.proofs.actives.some_active.Tie as tie
 
 abbrev Inv-loop : tie.InvT-loop
-Inv-loop plan pred n l₀ l = (l ≤ n) × (anyBelow (laneActive plan pred) l ≡ false)
+Inv-loop plan pred n l₀ l = (l ≤ n) × (anyBelow (isActive plan pred) l ≡ false)
 
 abbrev μ-loop : tie.MeasureT-loop
 μ-loop plan pred n l₀ l = n - l

@@ -12,9 +12,9 @@ use mir.Facts.{fits-le, fits-below}
 use mir.Syntax.{w64}
 use mir.Val.{Fits}
 use Rattle.ground.proofs.Fills.{Filled}
-use Rattle.loads.specs.Lanes.{bitOf}
-use Rattle.loads.proofs.Walks.{many}
-use Rattle.bench.specs.Quick.{byteFrom}
+use Rattle.steps.specs.Lanes.{bitOf}
+use Rattle.steps.proofs.Walks.{many}
+use Rattle.bench.specs.Inside.Quick.{byteFrom}
 use Rattle.bench.proofs.Small.{slot, next, less}
 use Rattle.bench.proofs.Many.{many-next, next-most}
 use Rattle.bench.proofs.Lanes.{some-width, unfilled-of, chunk-off, lane-turn}
@@ -73,13 +73,13 @@ chunk-spec =
     let t = c .before .before .before .before .before .before .before .before in
     rw (c .one-if .ensures, t .before .loop .inv .1)
     (fits-below {n = 8} tt
-    (le-trans (next-most (λ k. bitOf (g t .args .byte ∷ []) (k * g t .args .width)) (l t) (c .before .before .before .before .before .before .active .result))
+    (le-trans (next-most (λ k. bitOf (g t .args .byte ∷ []) (k * g t .args .width)) (l t) (c .before .before .before .before .before .before .bit-is-set .result))
     (next (few t)))))
     (λ c. let t = c .before .before .before .before .before .before .before .before in fits-below {n = 8} tt (next (few t)))
     (λ c. less (c .before .before .before .before .before .before .before .before .loop-test .taken))
     (λ c.
     let t = c .before .before .before .before .before .before .before .before in
-    let a = c .before .before .before .before .before .before .active .ensures in (
+    let a = c .before .before .before .before .before .before .bit-is-set .ensures in (
       next (t .loop-test .taken),
       rw (c .one-if .ensures, a, t .before .loop .inv .1) (many-next (λ k. bitOf (g t .args .byte ∷ []) (k * g t .args .width)) (l t)),
       lane-turn _ _ _ _ _ _ _ (t .before .loop .inv .2) (room t) _ a _ (c .before .before .before .before .before .lane-from .ensures) _

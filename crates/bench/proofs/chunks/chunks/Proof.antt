@@ -8,11 +8,11 @@ use denote.Ref.{now}
 use lib.ListN.{length, getD}
 use mir.Facts.{fits-le, fits-below}
 use Rattle.ground.proofs.Fills.{Filled, unfilled, part-length}
-use Rattle.loads.specs.Lanes.{bitOf}
-use Rattle.loads.proofs.Walks.{many}
-use Rattle.bench.specs.Quick.{byteFrom}
+use Rattle.steps.specs.Lanes.{bitOf}
+use Rattle.steps.proofs.Walks.{many}
+use Rattle.bench.specs.Inside.Quick.{byteFrom}
 use Rattle.bench.proofs.Small.{next, less}
-use Rattle.loads.proofs.Counts.{many-most}
+use Rattle.steps.proofs.Counts.{many-most}
 use Rattle.bench.proofs.Lanes.{some-width, chunk-turn, count-turn, chunks-filled, chunk-in, start-in, chunk-room}
 use Rattle.bench.proofs.chunks.chunks.Statement.{statement}
 use Rattle.bench.proofs.chunks.chunks.Tie as tie

@@ -9,7 +9,7 @@ use denote.Ref.{now}
 use lib.Dec.{lit≤}
 use lib.ListN.{length}
 use mir.Facts.{fits-below}
-use Rattle.bench.specs.Quick.{LanesIn, LanesOut}
+use Rattle.bench.specs.Inside.Quick.{LanesIn, LanesOut}
 use Rattle.bench.proofs.Many.{one, one-most}
 use Rattle.bench.proofs.Lanes.{thin, row-told, const-in, const-out}
 use Rattle.bench.proofs.chunks.sized.Statement.{statement}

@@ -3,7 +3,7 @@ use mathlib.Core.Path.{_≡_, _∙_}
 use Prim.Native.Nat.{ℕ, _+_, _-_, _*_, _%_, _^_, _≤_}
 use native.Mathlib.Omega.{arith}
 use borrow.Author.Needs.{needs}
-use Rattle.loads.specs.Outcomes.{extended}
+use Rattle.steps.specs.Outcomes.{extended}
 use Rattle.bench.proofs.Digits.{half-is, twice, half-few}
 use Rattle.bench.proofs.chunks.widened.Statement.{statement}
 use Rattle.bench.proofs.chunks.widened.Tie as tie

@@ -1,6 +1,6 @@
 -- `base` meets its contract: written back where the plan says so, and else as it was.
 use borrow.Author.Needs.{needs}
-use Rattle.loads.specs.Outcomes.{baseAfter}
+use Rattle.steps.specs.Outcomes.{baseAfter}
 use Rattle.bench.proofs.fills.base.Statement.{statement}
 use Rattle.bench.proofs.fills.base.Tie as tie
 

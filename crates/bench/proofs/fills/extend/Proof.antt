@@ -5,7 +5,7 @@ use native.Mathlib.Omega.{arith}
 use lib.Pow.{pow-mono}
 use Rattle.ground.specs.Sizes.{bytesOf}
 use Rattle.ground.proofs.Sizes.{bytes-some, bytes-few}
-use Rattle.loads.specs.Outcomes.{extended}
+use Rattle.steps.specs.Outcomes.{extended}
 use Rattle.bench.proofs.Digits.{sign-test, above}
 use Rattle.bench.proofs.fills.extend.Statement.{statement}
 use Rattle.bench.proofs.fills.extend.Tie as tie

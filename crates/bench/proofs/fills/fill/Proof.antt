@@ -10,7 +10,7 @@ use mir.Val.{Fits}
 use Rattle.ground.proofs.Fills.{Filled, unfilled, all-filled}
 use Rattle.ground.proofs.Sizes.{bytes-some, lane-room}
 use Rattle.memory.specs.Areas.{areasOf}
-use Rattle.loads.specs.Outcomes.{answersIn, registerByte, registerOf}
+use Rattle.steps.specs.Outcomes.{answersIn, registerByte, registerOf}
 use Rattle.bench.proofs.Small.{whole, next, less, next-fits}
 use Rattle.bench.proofs.Digits.{lane-filled}
 use Rattle.bench.proofs.fills.fill.Statement.{statement}

@@ -3,7 +3,7 @@ use mathlib.Core.Path.{sym, _∙_}
 use native.Mathlib.Nat.{mod-le}
 use native.Mathlib.Omega.{arith}
 use borrow.Author.Needs.{needs}
-use Rattle.loads.specs.Outcomes.{laneValue}
+use Rattle.steps.specs.Outcomes.{laneValue}
 use Rattle.bench.proofs.fills.lane_value.Statement.{statement}
 use Rattle.bench.proofs.fills.lane_value.Tie as tie
 

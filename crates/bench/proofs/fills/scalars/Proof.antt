@@ -1,6 +1,6 @@
 -- `scalars` meets its contract: the base is written back first, and PC is the sum that was made before.
 use borrow.Author.Needs.{needs}
-use Rattle.loads.specs.Outcomes.{scalarsAfter}
+use Rattle.steps.specs.Outcomes.{scalarsAfter}
 use Rattle.bench.proofs.fills.scalars.Statement.{statement}
 use Rattle.bench.proofs.fills.scalars.Tie as tie
 

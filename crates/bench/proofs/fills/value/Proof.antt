@@ -1,7 +1,7 @@
 -- `value` meets its contract: the value where there is one.
 use mathlib.Core.Path.{sym, ap, _∙_}
 use borrow.Author.Needs.{needs}
-use Rattle.loads.specs.Outcomes.{valueOf}
+use Rattle.steps.specs.Outcomes.{valueOf}
 use Rattle.bench.proofs.fills.value.Statement.{statement}
 use Rattle.bench.proofs.fills.value.Tie as tie
 

@@ -4,7 +4,7 @@ use native.Mathlib.Nat.{le-trans, le-of-eq}
 use borrow.Author.Needs.{needs}
 use mir.Facts.{fits-below}
 use Rattle.ground.proofs.Sizes.{bytes-few}
-use Rattle.bench.specs.Quick.{ownOf, ownIn}
+use Rattle.bench.specs.Inside.Quick.{ownOf, ownIn}
 use Rattle.bench.proofs.Small.{small}
 use Rattle.bench.proofs.Own.{found-few, found-room}
 use Rattle.bench.proofs.Registers.{filled-out}
@@ -23,7 +23,7 @@ pub fill-spec : {M : Type 1} → statement M
 fill-spec =
     tie.close (tie.spec (λ c κs. tt)
     (λ c κs. let g = c .before .before .before .before in
-    (g .pre .fit .sound .few, g .pre .fit .sound .filled, rw (c .bytes .ensures) (bytes-few (g .args .plan .lane))))
+    (g .pre .fit .sound .elements, g .pre .fit .sound .filled, rw (c .bytes .ensures) (bytes-few (g .args .plan .lane))))
     (λ c. rw (c .before .bytes .ensures) (fits-below {n = 2048} tt (small _ (g c .args .plan .lane) (g c .pre .fit .sound .filled))))
     (λ c κs. let o = c .before in (g o .pre, own o, o .before .bytes .ensures))
     (λ c. let o = c .before .before .before .before .before in fits-below {n = 256} tt (found-few (g o .pre) (own o) (o .before .bytes .ensures) .1))

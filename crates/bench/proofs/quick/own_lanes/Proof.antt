@@ -4,7 +4,7 @@ use native.Mathlib.Omega.{arith}
 use borrow.Author.Needs.{needs}
 use denote.Ref.{now}
 use lib.ListN.{length-take}
-use Rattle.loads.specs.declared.Rule.the-variants.{Always}
+use Rattle.steps.specs.declared.Rule.the-variants.{Always}
 use Rattle.bench.proofs.Own.{is-always, always-room, always-in, always-out, other-in, other-out}
 use Rattle.bench.proofs.quick.own_lanes.Statement.{statement}
 use Rattle.bench.proofs.quick.own_lanes.Tie as tie

@@ -1,7 +1,7 @@
 -- `element` meets its contract: memory is asked at the element's place.
 use mathlib.Core.Path.{_∙_}
 use borrow.Author.Needs.{needs}
-use Rattle.loads.specs.Outcomes.{answersIn}
+use Rattle.steps.specs.Outcomes.{answersIn}
 use Rattle.bench.proofs.reads.element.Statement.{statement}
 use Rattle.bench.proofs.reads.element.Tie as tie
 

@@ -1,7 +1,7 @@
 -- `place` meets its contract: an element's number is small, so only the address can wrap.
 use mathlib.Core.Path.{_∙_}
 use native.Mathlib.Omega.{arith}
-use Rattle.loads.specs.Lanes.{elementAt}
+use Rattle.steps.specs.Lanes.{elementAt}
 use Rattle.bench.proofs.Small.{small}
 use Rattle.bench.proofs.reads.place.Statement.{statement}
 use Rattle.bench.proofs.reads.place.Tie as tie

@@ -9,7 +9,7 @@ use mir.Facts.{fits-below}
 use Rattle.ground.specs.Sizes.{bytesOf}
 use Rattle.ground.proofs.Sizes.{bytes-some}
 use Rattle.bench.proofs.Small.{small}
-use Rattle.bench.proofs.Together.{answers}
+use Rattle.bench.proofs.Together.{stretch-answers}
 use Rattle.bench.proofs.Alike.{alike}
 use Rattle.bench.proofs.roads.load.Statement.{statement}
 use Rattle.bench.proofs.roads.load.Tie as tie
@@ -23,7 +23,7 @@ module _ (b : tie.After-bytes) where
   bytes = ap (λ (k : ℕ). g .args .plan .elements * k) (b .bytes .ensures)
 
   most : g .args .plan .elements * b .bytes .result ≤ 2048
-  most = rw bytes (small _ (g .args .plan .size) (g .pre .1 .sound .few))
+  most = rw bytes (small _ (g .args .plan .size) (g .pre .1 .sound .elements))
 
   some : 0 < g .args .plan .elements * b .bytes .result
   some = rw bytes (mul-pos (g .pre .1 .sound .some) (bytes-some (g .args .plan .size)))
@@ -38,8 +38,8 @@ load-spec =
     (λ c. search needs)
     (λ c.
     let b = c .before .before .before .before .before .before .before .before in
-    let together = c .before .before .before .before .before .before .find .ensures (c .before .before .before .before .before .if1 .taken) in
-    alike _ (g b .args .plan) _ _ (now (g b .args .dst)) (g b .pre .1 .sound .some) (answers _ _ _ _ together (g b .args .plan) refl (bytes b))
+    let all-together = c .before .before .before .before .before .before .find .ensures (c .before .before .before .before .before .if1 .taken) in
+    alike _ (g b .args .plan) _ _ (now (g b .args .dst)) (g b .pre .1 .sound .some) (stretch-answers _ _ _ _ all-together (g b .args .plan) refl (bytes b))
     (c .before .before .before .fill .ensures) (c .ended .ensures))
     (λ c κs. let b = c .before .before .before .before in (g b .pre .1 .sound, (g b .pre .1 .most, g b .pre .1 .whole)))
     (λ c. search needs)

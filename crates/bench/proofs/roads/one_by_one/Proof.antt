@@ -2,7 +2,7 @@
 use mathlib.Core.Path.{sym, ap, _∙_}
 use borrow.Author.Needs.{needs}
 use borrow.Author.Tests.{eq-eqb, ne-eqb}
-use Rattle.loads.specs.Answers.{Report}
+use Rattle.steps.specs.Answers.{Report}
 use Rattle.bench.proofs.roads.one_by_one.Statement.{statement}
 use Rattle.bench.proofs.roads.one_by_one.Tie as tie
 

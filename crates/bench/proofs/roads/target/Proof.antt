@@ -8,7 +8,7 @@ use mir.Syntax.{w64}
 use mir.Val.{Fits}
 use Rattle.ground.proofs.Fills.{part-length}
 use Rattle.bench.proofs.Small.{slot}
-use Rattle.bench.proofs.Ends.{targeted}
+use Rattle.bench.proofs.Ends.{target-loaded}
 use Rattle.bench.proofs.roads.target.Statement.{statement}
 use Rattle.bench.proofs.roads.target.Tie as tie
 
@@ -34,4 +34,4 @@ target-spec =
     (λ c. fits c)
     (λ c κs. let t = c .before in (G t .pre .0, rw (part-length (now (G t .args .z)) (at t) (G t .args .n) (fits t)) (G t .pre .1 .0)))
     (λ c. c .before .z .given .1)
-    (λ c. let t = c .before .before .before .before in targeted _ _ _ (now (G t .args .z)) (G t .args .n) (fits t) (c .before .before .load .ensures)))
+    (λ c. let t = c .before .before .before .before in target-loaded _ _ _ (now (G t .args .z)) (G t .args .n) (fits t) (c .before .before .load .ensures)))

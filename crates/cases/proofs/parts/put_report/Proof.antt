@@ -6,9 +6,9 @@ use native.Mathlib.Omega.{arith}
 use borrow.Author.Needs.{needs}
 use lib.ListN.{length, set, take, drop}
 use Rattle.ground.proofs.Fills.{back-in, first-set}
-use Rattle.loads.specs.Answers.{numberOf, elementOf, addressOf, reportOf}
-use Rattle.loads.specs.declared.StepResult.{StepResult}
-use Rattle.loads.proofs.Numbers.{in-byte}
+use Rattle.steps.specs.Answers.{numberOf, elementOf, addressOf, reportOf}
+use Rattle.steps.specs.declared.StepResult.{StepResult}
+use Rattle.steps.proofs.Numbers.{in-byte}
 use Rattle.cases.specs.Outcomes.{eights, reportBytes}
 use Rattle.cases.proofs.parts.put_report.Statement.{statement}
 use Rattle.cases.proofs.parts.put_report.Tie as tie

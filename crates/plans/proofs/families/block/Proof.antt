@@ -3,8 +3,8 @@ use mathlib.Core.Path.{_∙_}
 use Prim.Native.Nat.{_≤_}
 use native.Mathlib.Omega.{arith}
 use Rattle.ground.proofs.Sizes.{bytes-some}
-use Rattle.loads.specs.Plans.{spreadOf}
-use Rattle.loads.proofs.Plans.{blocks-few}
+use Rattle.steps.specs.Plans.{spreadOf}
+use Rattle.steps.proofs.Plans.{blocks-few}
 use Rattle.plans.proofs.Bounds.{block-few}
 use Rattle.plans.proofs.families.block.Statement.{statement}
 use Rattle.plans.proofs.families.block.Tie as tie

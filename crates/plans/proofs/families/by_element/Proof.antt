@@ -1,6 +1,6 @@
 -- `by_element` meets its contract: the product joins the base modulo 2^64, as if it were whole.
 use mathlib.Core.Path.{_∙_}
-use Rattle.loads.specs.Plans.{spreadOf}
+use Rattle.steps.specs.Plans.{spreadOf}
 use Rattle.plans.proofs.Bounds.{wrap-once}
 use Rattle.plans.proofs.families.by_element.Statement.{statement}
 use Rattle.plans.proofs.families.by_element.Tie as tie

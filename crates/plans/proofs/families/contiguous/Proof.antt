@@ -5,7 +5,7 @@ use native.Mathlib.Nat.{le-refl}
 use native.Mathlib.Omega.{arith}
 use Rattle.ground.specs.Sizes.{bytesOf}
 use Rattle.ground.proofs.Sizes.{bytes-few}
-use Rattle.loads.specs.Plans.{spreadOf}
+use Rattle.steps.specs.Plans.{spreadOf}
 use Rattle.plans.proofs.Bounds.{vector-few}
 use Rattle.plans.proofs.families.contiguous.Statement.{statement}
 use Rattle.plans.proofs.families.contiguous.Tie as tie

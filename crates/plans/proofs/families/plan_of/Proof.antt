@@ -1,6 +1,6 @@
 -- `plan_of` meets its contract: each family's function makes the definition's plan.
 use mathlib.Core.Path.{_∙_}
-use Rattle.loads.specs.Plans.{spreadOf}
+use Rattle.steps.specs.Plans.{spreadOf}
 use Rattle.plans.proofs.families.plan_of.Statement.{statement}
 use Rattle.plans.proofs.families.plan_of.Tie as tie
 

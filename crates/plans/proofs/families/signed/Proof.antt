@@ -5,7 +5,7 @@ use mir.Facts.{toZ-ofZ, toZ-pos}
 use mir.Syntax.{w64}
 use borrow.Author.Needs.{needs}
 use borrow.Author.Tests.{lt-ltb, le-ltb}
-use Rattle.loads.specs.Terms.{signed4}
+use Rattle.steps.specs.Terms.{signed4}
 use Rattle.plans.proofs.families.signed.Statement.{statement}
 use Rattle.plans.proofs.families.signed.Tie as tie
 

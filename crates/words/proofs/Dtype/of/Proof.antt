@@ -3,7 +3,7 @@ use mathlib.Core.Path.{sym}
 use native.Mathlib.Omega.{arith}
 use borrow.Author.Needs.{needs}
 use borrow.Author.Tests.{le-leb, lt-leb}
-use Rattle.words.proofs.Rule.{rule, past}
+use Rattle.words.proofs.DtypeRule.{dtype-rule, past}
 use Rattle.words.proofs.Dtype.of.Statement.{statement}
 use Rattle.words.proofs.Dtype.of.Tie as tie
 
@@ -15,9 +15,9 @@ of-spec =
     (λ c κs. search needs)
     (λ c κs. search needs)
     (λ c. let field = c .before .before .before .before .args .field in
-    rw (rule field (omega arith), le-leb _ _ (c .before .before .if2 .taken), c .before .of .ensures, c .of2 .ensures))
+    rw (dtype-rule field (omega arith), le-leb _ _ (c .before .before .if2 .taken), c .before .of .ensures, c .of2 .ensures))
     (λ c κs. search needs)
     (λ c. search needs)
     (λ c κs. search needs)
     (λ c. let field = c .before .before .before .before .args .field in
-    rw (rule field (omega arith), lt-leb _ _ (c .before .before .if2 .left), c .before .of3 .ensures, c .of4 .ensures)))
+    rw (dtype-rule field (omega arith), lt-leb _ _ (c .before .before .if2 .left), c .before .of3 .ensures, c .of4 .ensures)))

@@ -1,0 +1,140 @@
+-- Demand 2 over the definition of a step, in the words of specs/Said, specs/Given and specs/Leaves: where each element lies, what a load
+-- that ran leaves, and that these words leave nothing open. Which words decode is stated in the crate words (Decodes).
+use mathlib.Core.Path.{_≡_, refl, sym, ap, subst, subst₂, _∙_}
+use mathlib.Core.Bool.{Bool, true, false}
+use mathlib.Core.List.{List}
+use mathlib.Core.Logic.{_↔_}
+use Prim.Native.Nat.{ℕ, _+_, _*_, _/_, _%_, _^_, _≤_, _<_}
+use native.Mathlib.Omega.{arith}
+use lib.IntN.{pos, _+ℤ_, _*ℤ_}
+use lib.ListN.{length}
+use Rattle.ground.specs.Sizes.{bytesOf}
+use Rattle.steps.specs.Insns.{Insn, Shape, Replicate, ByElement, Contiguous, Block, Offset, Imm, Reg, Back}
+use Rattle.memory.specs.Addresses.{wrap, wrapℤ}
+use Rattle.steps.specs.Benches.{Lent, Bench, areasIn}
+use Rattle.steps.specs.Answers.{numberOf}
+use Rattle.steps.specs.Terms.{signed4, scalar}
+use Rattle.steps.specs.Plans.{spreadOf, planWith, planOf}
+use Rattle.steps.specs.Lanes.{governingBytes, asked, elementAt}
+use Rattle.steps.specs.Outcomes.{Outcome}
+use Rattle.steps.specs.Step.{stepOf, StepPromise}
+use Rattle.steps.specs.Said.{laneBytes, N, K, copies, LaneActive}
+use Rattle.steps.specs.Demand1.{Ready, AllReadable}
+use Rattle.steps.specs.Demand2.{TakesAs, laneIn, Leaves}
+use Rattle.steps.specs.declared.StepResult.{StepResult}
+use Rattle.steps.proofs.Places.{signed-field, at-first, on-from, by-immediate, by-register}
+use Rattle.steps.proofs.Gives.{runs, ran-only}
+use Rattle.steps.proofs.Determined.{Octets, determined}
+use Rattle.steps.proofs.Keeps.{lent-kept}
+use Rattle.steps.proofs.Runs.{ran-leaves, ran-bench, ran-count}
+
+-- Where element e lies, family by family, in document 01's own formulas: modulo 2^64, and imm4 a whole number from -8 to 7. `Given` and
+-- `Leaves` name each byte by these formulas (byteAt of Said); the laws say that the plan reads there.
+pub imm4 : (v : ℕ) → v < 16 → signed4 v +ℤ pos 8 ≡ pos ((v + 8) % 16)
+imm4 v h = signed-field v h
+
+module _ (l : Lent) (x : List ℕ) (i : Insn) where
+  -- where the plan of the instruction has element e, and where it would with another shape
+  abbrev at : ℕ → ℕ
+  at e = elementAt (planOf (l .settings .vl) x i) e
+
+  abbrev atAs : Shape → ℕ → ℕ
+  atAs s e = elementAt (planWith i (spreadOf (l .settings .vl) x i s)) e
+
+  own : {s : Shape} (e : ℕ) {n : ℕ} → i .shape ≡ s → atAs s e ≡ n → at e ≡ n
+  own e h q = ap (λ (t : Shape). atAs t e) h ∙ q
+
+  -- base + (imm4 × N + e) × m
+  pub ld1-immediate : (imm4 : ℕ) → i .shape ≡ Contiguous (Imm imm4) → (e : ℕ)
+      → at e ≡ wrapℤ (pos (scalar x (i .base)) +ℤ (signed4 imm4 *ℤ pos (l .settings .vl / (8 * bytesOf (i .element .lane))) +ℤ pos e) *ℤ pos
+      (bytesOf (i .element .memory)))
+  unfolding elementAt spreadOf
+  ld1-immediate imm4 h e = own e h (by-immediate (scalar x (i .base)) (signed4 imm4) _ e _)
+
+  -- base + (Xm + e) × m
+  pub ld1-scalar : (rm : ℕ) → i .shape ≡ Contiguous (Reg rm) → (e : ℕ) → at e ≡ wrap (scalar x (i .base) + (scalar x rm + e) * bytesOf (i .element .memory))
+  unfolding elementAt spreadOf
+  ld1-scalar rm h e = own e h (by-register (scalar x (i .base)) (scalar x rm) e _)
+
+  -- base + imm4 × 16 + e × m
+  pub ld1rq-immediate : (imm4 : ℕ) → i .shape ≡ Block false (Imm imm4) → (e : ℕ)
+      → at e ≡ wrapℤ (pos (scalar x (i .base)) +ℤ signed4 imm4 *ℤ pos 16 +ℤ pos (e * bytesOf (i .element .memory)))
+  unfolding elementAt spreadOf
+  ld1rq-immediate imm4 h e = own e h (sym (on-from (scalar x (i .base)) (signed4 imm4 *ℤ pos 16) _))
+
+  -- base + imm4 × 32 + e × m
+  pub ld1ro-immediate : (imm4 : ℕ) → i .shape ≡ Block true (Imm imm4) → (e : ℕ)
+      → at e ≡ wrapℤ (pos (scalar x (i .base)) +ℤ signed4 imm4 *ℤ pos 32 +ℤ pos (e * bytesOf (i .element .memory)))
+  unfolding elementAt spreadOf
+  ld1ro-immediate imm4 h e = own e h (sym (on-from (scalar x (i .base)) (signed4 imm4 *ℤ pos 32) _))
+
+  -- LD1RQ and LD1RO, scalar: base + (Xm + e) × m
+  pub block-scalar : (wide : Bool) (rm : ℕ) → i .shape ≡ Block wide (Reg rm) → (e : ℕ)
+      → at e ≡ wrap (scalar x (i .base) + (scalar x rm + e) * bytesOf (i .element .memory))
+  unfolding elementAt spreadOf
+  block-scalar wide rm h e = own e h (by-register (scalar x (i .base)) (scalar x rm) e _)
+
+  -- one read at base + imm6 × m
+  pub ld1r-by-element : (imm6 : ℕ) → i .shape ≡ ByElement imm6 → at 0 ≡ wrap (scalar x (i .base) + imm6 * bytesOf (i .element .memory))
+  unfolding elementAt spreadOf
+  ld1r-by-element imm6 h = own 0 h (omega arith)
+
+  -- one read at the base
+  pub ld1r : (q : ℕ) (back : Back) → i .shape ≡ Replicate q back → at 0 ≡ wrap (scalar x (i .base))
+  unfolding elementAt spreadOf
+  ld1r q back h = own 0 h (at-first (scalar x (i .base)) 0 (bytesOf (i .element .memory)) refl)
+
+-- A load that is ready and can read every byte of its active elements leaves what document 01 says: each lane its extended
+-- number or zero, the base, PC, and everything else as it was.
+pub demand-2 : (l : Lent) (w : ℕ) (b : Bench) (i : Insn) → Ready l w b i → AllReadable l b i → Leaves l b i (stepOf l w b .lent) (stepOf l w b .bench)
+demand-2 l w b i r a = subst₂ (Leaves l b i) (sym (lent-kept l w b)) (sym (ran-bench l w b i r a)) (ran-leaves l w b i r a)
+
+-- The same of any outcome that meets the promise and ran.
+abbrev pub Done : Lent → ℕ → Bench → Lent → Bench → Type 0
+Done l w b l₁ b₁ = (i : Insn) × Ready l w b i × AllReadable l b i × Leaves l b i l₁ b₁
+
+pub demand-2-promise : (l : Lent) (w : ℕ) (b : Bench) (r : StepResult) (l₁ : Lent) (b₁ : Bench) → StepPromise l w b r l₁ b₁ → numberOf (r .answer) ≡ 0
+    → Done l w b l₁ b₁
+demand-2-promise l w b r l₁ b₁ p z =
+    let d = ran-only l w b (sym (ap (λ (o : Outcome). o .report .number) p) ∙ z) in
+    (d .0, d .1, d .2, subst (λ (o : Outcome). Leaves l b (d .0) (o .lent) (o .bench)) (sym p) (demand-2 l w b (d .0) (d .1) (d .2)))
+
+-- Those loads run, and nothing else does.
+pub demand-2-runs : (l : Lent) (w : ℕ) (b : Bench) → (stepOf l w b .report .number ≡ 0) ↔ ((i : Insn) × Ready l w b i × AllReadable l b i)
+demand-2-runs l w b = (ran-only l w b, λ h. runs l w b (h .0) (h .1) (h .2))
+
+-- These words leave nothing open: no two benches meet them.
+pub demand-2-determined : (l : Lent) (w : ℕ) (b : Bench) (i : Insn) → Ready l w b i → AllReadable l b i → Octets (areasIn l b)
+    → (l₁ l₂ : Lent) (b₁ b₂ : Bench) → Leaves l b i l₁ b₁ → Leaves l b i l₂ b₂ → (l₁ ≡ l₂) × (b₁ ≡ b₂)
+demand-2-determined l w b i r a o = determined l w b i r a o
+
+-- The count is the number of reads in the definition.
+pub demand-2-count : (l : Lent) (w : ℕ) (b : Bench) (i : Insn) → Ready l w b i → AllReadable l b i
+    → let p = planOf (l .settings .vl) (b .scalars) i in stepOf l w b .report .count ≡ length (asked p (governingBytes l p))
+demand-2-count l w b i r a = ran-count l w b i r a
+
+-- An inactive lane becomes zero; in a block load it is one of the block's own, and zero in each copy; bytes left over are zero. Of an
+-- instruction that ran, and k one of its lanes:
+module _ (l : Lent) (w : ℕ) (b : Bench) (i : Insn) (ready : Ready l w b i) (all : AllReadable l b i) (k : ℕ) (inside : k < N l i) where
+  -- what lane k of its register holds
+  abbrev lane : ℕ
+  lane = laneIn l (stepOf l w b .bench .vectors) (i .target) (laneBytes i) k
+
+  none : {s : Shape} → i .shape ≡ s → ((e : ℕ) → TakesAs s l i k e → ⊥) → lane ≡ 0
+  none {s} h q = demand-2 l w b i ready all .zero k inside (λ e t. q e (subst (λ (u : Shape). TakesAs u l i k e) h t))
+
+  pub inactive-zero : (o : Offset) → i .shape ≡ Contiguous o → (LaneActive l i k → ⊥) → lane ≡ 0
+  inactive-zero o h q = none h (λ e t. q (t .1))
+
+  pub element-inactive-zero : (imm6 : ℕ) → i .shape ≡ ByElement imm6 → (LaneActive l i k → ⊥) → lane ≡ 0
+  element-inactive-zero imm6 h q = none h (λ e t. q (t .1))
+
+  pub block-inactive-zero : (wide : Bool) (o : Offset) → i .shape ≡ Block wide o → (LaneActive l i (k % K wide i) → ⊥) → lane ≡ 0
+  block-inactive-zero wide o h q = none h (λ e t. q (t .2))
+
+  pub left-over-zero : (wide : Bool) (o : Offset) → i .shape ≡ Block wide o → copies l wide ≤ k / K wide i → lane ≡ 0
+  left-over-zero wide o h q = none h (λ e t. let c = t .1 in omega arith)
+
+  -- LD1R: "the rest of the Z register becomes zero"
+  pub rest-zero : (q : ℕ) (back : Back) → i .shape ≡ Replicate q back → 8 * 2 ^ q ≤ k * laneBytes i → lane ≡ 0
+  rest-zero q back h g = none h (λ e t. let c = t .1 in omega arith)

@@ -1,0 +1,24 @@
+-- The demands, and the lemmas that they rest on.
+pub mod Fields
+pub mod Places
+pub mod Actives
+pub mod Plans
+pub mod Walks
+pub mod Depends
+pub mod Counts
+pub mod Accepts
+pub mod Faults
+pub mod Tests
+pub mod Surveys
+pub mod Gives
+pub mod Keeps
+pub mod Results
+pub mod Runs
+pub mod Determined
+pub mod Agrees
+pub mod Unique
+pub mod Numbers
+pub mod Promise
+pub mod Demand1
+pub mod Demand2
+pub mod Demand3

@@ -1,0 +1,30 @@
+-- The promise of a step leaves nothing open, and can be met.
+use mathlib.Core.Path.{_≡_, refl, ap}
+use Prim.Native.Nat.{ℕ}
+use Rattle.ground.proofs.Laws.{only-one}
+use Rattle.steps.specs.Benches.{Lent, Bench, areasIn}
+use Rattle.steps.specs.Outcomes.{Outcome}
+use Rattle.steps.specs.Step.{stepOf, StepPromise}
+use Rattle.steps.specs.declared.StepResult.{StepResult}
+use Rattle.steps.proofs.Gives.{met}
+use Rattle.steps.proofs.Unique.{resultOf, result-unique}
+
+-- Two outcomes that meet it are the same result, and the same bench to the last byte and number.
+pub promise-unique : (l : Lent) (w : ℕ) (b : Bench) (r r′ : StepResult) (l₁ l₂ : Lent) (b₁ b₂ : Bench)
+    → StepPromise l w b r l₁ b₁ → StepPromise l w b r′ l₂ b₂ → (r ≡ r′) × (l₁ ≡ l₂) × (b₁ ≡ b₂)
+promise-unique l w b r r′ l₁ l₂ b₁ b₂ p q =
+    let e = only-one p q in
+    (result-unique r r′ (ap (λ (o : Outcome). o .report) e), ap (λ (o : Outcome). o .lent) e, ap (λ (o : Outcome). o .bench) e)
+
+-- And there is one, whatever comes in.
+pub promise-met : (l : Lent) (w : ℕ) (b : Bench) → (r : StepResult) × StepPromise l w b r (stepOf l w b .lent) (stepOf l w b .bench)
+promise-met l w b = (resultOf (stepOf l w b .report), λ i. record { report = met l w b i; lent = stepOf l w b .lent; bench = stepOf l w b .bench })
+
+-- The answers' cases are document 01's numbers: `answers-told` of Unique. The areas that the statements speak of are those lent.
+pub lent-areas : (l : Lent) (b : Bench)
+    → areasIn l b
+    ≡ record {
+      flash = record { start = l .map .flash .0; bytes = l .flash; rights = l .flashRights };
+      ram = record { start = l .map .ram .0; bytes = b .ram; rights = l .ramRights };
+    }
+lent-areas l b = refl

@@ -1,0 +1,51 @@
+-- "The lent bench", and which set-ups are accepted.
+use Prim.Native.Nat.{ℕ, _*_, _/_, _%_}
+use mathlib.Core.Bool.{Bool}
+use mathlib.Core.List.{List, [], _∷_}
+use lib.Dec.{leb, eqb}
+use lib.ListN.{length}
+use Rattle.ground.specs.Choices.{allOf}
+use Rattle.memory.specs.Areas.{Areas, areasOf, areAreasAccepted}
+use Rattle.memory.specs.declared.Map.{Map}
+use Rattle.steps.specs.declared.Settings.{Settings}
+
+-- what no step ever changes
+pub record Lent : Type 0 where
+  pub settings : Settings
+  pub predicates : List ℕ
+  pub map : Map
+  pub flash : List ℕ
+  pub flashRights : List ℕ
+  pub ramRights : List ℕ
+
+-- what a step may change: the vector file, the scalars X0 to X30, SP, PC, and RAM (which no load changes)
+pub record Bench : Type 0 where
+  pub vectors : List ℕ
+  pub scalars : List ℕ
+  pub ram : List ℕ
+
+abbrev pub areasIn : Lent → Bench → Areas
+areasIn l b = areasOf (l .map) (l .flash) (l .flashRights) (b .ram) (l .ramRights)
+
+-- "a multiple of 128, 128 to 2,048"
+abbrev pub lengthTests : ℕ → List Bool
+lengthTests vl = eqb (vl % 128) 0 ∷ leb 128 vl ∷ leb vl 2048 ∷ []
+
+abbrev pub isLengthAllowed : ℕ → Bool
+isLengthAllowed vl = allOf (lengthTests vl)
+
+-- VL, and files of z bytes, p bytes and x numbers: 32 registers of VL/8 bytes; 16 registers of VL/64 bytes; 33 numbers
+abbrev pub fileTests : ℕ → ℕ → ℕ → ℕ → List Bool
+fileTests vl z p x = isLengthAllowed vl ∷ eqb z (32 * (vl / 8)) ∷ eqb p (16 * (vl / 64)) ∷ eqb x 33 ∷ []
+
+abbrev pub areFilesAccepted : ℕ → ℕ → ℕ → ℕ → Bool
+areFilesAccepted vl z p x = allOf (fileTests vl z p x)
+
+abbrev pub acceptedTests : Lent → Bench → List Bool
+acceptedTests l b =
+    areFilesAccepted (l .settings .vl) (length (b .vectors)) (length (l .predicates)) (length (b .scalars))
+    ∷ areAreasAccepted (areasIn l b)
+    ∷ []
+
+unfoldable pub isAccepted : Lent → Bench → Bool
+isAccepted l b = allOf (acceptedTests l b)
