@@ -62,15 +62,15 @@ module _ (r : Area) (a n at : ℕ) (few : n ≤ pageBytes) (place : at + r .star
             ∙ ap (λ (j : ℕ). getD (r .bytes) j 0) (sym (here i));
       }
 
--- .. of areas that are taken
-area-taken : (m : Areas) → AreasAccepted m → {r : Area} → OneOf m r → AreaAccepted r
-area-taken m t in-flash = t .flash
-area-taken m t in-ram = t .ram
+-- .. of areas that are accepted
+area-accepted : (m : Areas) → AreasAccepted m → {r : Area} → OneOf m r → AreaAccepted r
+area-accepted m t in-flash = t .flash
+area-accepted m t in-ram = t .ram
 
 pub all-together : (m : Areas) → AreasAccepted m → {r : Area} → OneOf m r → {a n : ℕ} {s : List ℕ} → Within r a n s → Together m a n s
 all-together m t {r} o {a} w i l =
     let h = w .held i l in
-    let e : plusOf a i ≡ a + i = omega (arith, area-taken m t o .ends) in
+    let e : plusOf a i ≡ a + i = omega (arith, area-accepted m t o .ends) in
     rw e (right-byte m t (a + i) o h (w .right i l) ∙ ap Byte (sym (w .bytes i l)))
 
 -- k bytes on, so many bytes read as they stand in the stretch

@@ -1,4 +1,4 @@
--- Areas are taken exactly as the scope of work says: limit, a rights byte for each page begun, start, end, and no address in both.
+-- Areas are accepted exactly as the scope of work says: limit, a rights byte for each page begun, start, end, and no address in both.
 use mathlib.Core.Path.{_≡_, refl}
 use mathlib.Core.Bool.{Bool, true, false, _||_}
 use mathlib.Core.List.{List, [], _∷_}
@@ -37,7 +37,7 @@ module _ (r : Area) where
     λ t. all-hold (areaTests (r .start) n k) (omega (arith, le-leb, eq-eqb)),
   )
 
--- an address that a taken area holds has a rights byte
+-- an address that an accepted area holds has a rights byte
 pub rights-there : (r : Area) → AreaAccepted r → (a : ℕ) → Holds r a → (a - r .start) / pageBytes < length (r .rights)
 rights-there r t a h = let e = t .reached in omega arith
 

@@ -89,7 +89,7 @@ module _ (m : Areas) (a : ℕ) where
     λ h. ⊎-elim (λ w. absurd (held-none h (w .0) (w .1) (w .2))) (λ w. w .2) found,
   )
 
--- taken areas: one law for flash and RAM
+-- accepted areas: one law for flash and RAM
 module _ (m : Areas) (t : AreasAccepted m) (a : ℕ) where
   pub looked : {r : Area} → OneOf m r → Holds r a → lookOf m a ≡ judged (r .bytes) (r .rights) (a - r .start)
   looked in-flash h = flash-first m a h

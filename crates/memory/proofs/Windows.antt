@@ -1,4 +1,4 @@
--- The address window: of areas that are taken, the part from the address to the end of the area that holds it, and else an empty part.
+-- The address window: of areas that are accepted, the part from the address to the end of the area that holds it, and else an empty part.
 use mathlib.Core.Path.{_≡_, sym, _∙_}
 use mathlib.Core.Bool.{true, false}
 use mathlib.Core.List.{List, []}
@@ -57,7 +57,7 @@ module _ (m : Areas) (a : ℕ) (flash ram p : RefT (List ℕ)) (w : WindowPromis
       let e : placeIn m a ≡ Nowhere = rw (holds-not (m .flash) a .1 f, holds-not (m .ram) a .1 r) in
       ⊎-elim (λ t. rw (shown-accepted m a t, e) at w) (λ t. rw (shown-refused m a t) at w) (true-or-false (areAreasAccepted m))
 
-  -- areas that are not taken: an empty part, of flash
+  -- areas that are not accepted: an empty part, of flash
   pub shows-none-refused : (AreasAccepted m → ⊥) → PartOf flash p 0 0
   shows-none-refused n =
       ⊎-elim (λ t. absurd (n (areas-exactly m .0 t))) (λ t. rw (shown-refused m a t) at w) (true-or-false (areAreasAccepted m))

@@ -1,4 +1,4 @@
--- Two read-only areas, flash and RAM: which are taken, and where an address lies.
+-- Two read-only areas, flash and RAM: which are accepted, and where an address lies.
 use Prim.Native.Nat.{ℕ, _+_, _-_, _/_, _%_, _^_}
 use mathlib.Core.Bool.{Bool, false, _||_}
 use mathlib.Core.List.{List, [], _∷_}

@@ -82,7 +82,7 @@ fn ends(start: Address, n: usize) -> bool
     n as u64 <= 18446744073709551615 - first + 1
 }
 
-// Whether one area is taken by itself: its limit, rights, start and end. Within the limit the pages begun are counted in a sum that
+// Whether one area is accepted by itself: its limit, rights, start and end. Within the limit the pages begun are counted in a sum that
 // does not wrap.
 fn area_accepted(start: Address, n: usize, rights: usize) -> bool
     ensures { λ r. ⌜ r ≡ isAreaAccepted (start .0) n rights ⌝ }
@@ -123,7 +123,7 @@ fn share_none(map: Map, nf: usize, nr: usize) -> bool
     before(ram, nr, flash) | (nf == 0) | (nr == 0)
 }
 
-// Whether the areas are taken.
+// Whether the areas are accepted.
 pub fn areas_accepted(
     map: Map,
     flash: &[u8],
@@ -254,7 +254,7 @@ fn shorter<'f, 'r: 'f>(s: &'r [u8], like: &'f [u8]) -> &'f [u8]
     s
 }
 
-// The place that the address window shows: nowhere where the areas are not taken.
+// The place that the address window shows: nowhere where the areas are not accepted.
 fn shown_place(
     map: Map,
     flash: &[u8],

@@ -51,7 +51,7 @@ module _ (s : Areas) (accepted : AreasAccepted s) (a : ℕ) where
   is-bad Nowhere = (λ h. held-none s a (nowhere-exactly s a .0 h), λ h. nowhere-exactly s a .1 (h _ in-flash, h _ in-ram))
   is-bad Denied = denied-exactly s accepted a
 
--- an active element of a load on taken areas
+-- an active element of a load on accepted areas
 module _ (l : Lent) (b : Bench) (accepted : AreasAccepted (areasIn l b)) (i : Insn) (e : ℕ) (active : Active l i e) where
   abbrev p : Plan
   p = planOf (l .settings .vl) (b .scalars) i

@@ -28,18 +28,18 @@ pub record Accepted (l : Lent) (b : Bench) : Type 0 where
   pub scalars : length (b .scalars) ≡ 33
   pub areas : AreasAccepted (areasIn l b)
 
--- m: "the memory size in bytes"; L: the lane size in bytes
+-- m, as document 01 calls it: "the memory size in bytes"; and the lane size in bytes
 abbrev pub m : Insn → ℕ
 m i = bytesOf (i .element .memory)
 
 abbrev pub laneBytes : Insn → ℕ
 laneBytes i = bytesOf (i .element .lane)
 
--- N: "VL divided by lane size"
+-- N, as document 01 calls it: "VL divided by lane size"
 abbrev pub N : Lent → Insn → ℕ
 N l i = l .settings .vl / (8 * laneBytes i)
 
--- K: the lanes of a block of 128 or 256 bits
+-- K: how many lanes a block of 128 or 256 bits has; lane l takes element l mod K
 abbrev pub K : Bool → Insn → ℕ
 K wide i = blockBytes wide / laneBytes i
 

@@ -1,4 +1,4 @@
--- `shown_place` meets its contract: the place is looked for where the areas are taken, and there alone.
+-- `shown_place` meets its contract: the place is looked for where the areas are accepted, and there alone.
 use mathlib.Core.Path.{sym, _∙_}
 use borrow.Author.Needs.{needs}
 use Rattle.memory.proofs.Windows.{shown-accepted, shown-refused}
