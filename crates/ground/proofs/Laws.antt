@@ -99,6 +99,11 @@ abbrev pub EachRow : {A : Type 0} → (A → Type 0) → List (Row A) → Type 0
 EachRow P [] = Unit {0}
 EachRow P (r ∷ rs) = (r .test ≡ true → P (r .gives)) × EachRow P rs
 
+-- .. row by row: `×` is flat, and a table's rows nest
+infixr 3 _&_
+abbrev pub _&_ : {A B : Type 0} → A → B → A × B
+a & b = (a, b)
+
 pub first-each : {A : Type 0} (P : A → Type 0) (rs : List (Row A)) (d : A) → EachRow P rs → P d → P (firstOf rs d)
 first-each P [] d h k = k
 first-each P (r ∷ rs) d h k = if-cases P (r .test) (r .gives) (firstOf rs d) (h .0) (λ _. first-each P rs d (h .1) k)

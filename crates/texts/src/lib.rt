@@ -3,8 +3,7 @@ ghost use mathlib.Core.Path.{_≡_};
 ghost use Prim.Native.Nat.{min};
 ghost use Rattle.texts.specs.Texts.{empty, andOf, decimalOf, bytesIn, alike};
 
-// Up to 64 bytes, of which the first n are the text. Those behind it are spaces unless somebody else puts others there, so that a column
-// is filled by writing more than the text has.
+// Up to 64 bytes, of which the first n are the text. Spaces stand behind it, so that a column is filled by writing more than the text has.
 pub struct Text {
     pub bytes: [u8; 64],
     pub n: usize,

@@ -5,7 +5,7 @@ use mathlib.Core.Bool.{Bool, _||_}
 use native.Mathlib.Omega.{arith}
 use lib.Dec.{eqb}
 use borrow.Author.Tests.{eqb-false}
-use Rattle.ground.proofs.Laws.{if-cases, first-each}
+use Rattle.ground.proofs.Laws.{if-cases, first-each, _&_}
 use Rattle.ground.specs.Sizes.{bytesOf, sizeOf}
 use Rattle.ground.specs.Pieces.{bits}
 use Rattle.words.specs.Dtypes.{plainOf}
@@ -49,8 +49,11 @@ module _ (w : ℕ) where
   block-in : (wide : Bool) (o : Offset) → OffsetInRange o → InRange (blockOf wide o w)
   block-in wide o h = sve-in _ (Block wide o) (omega arith) (h, governed, refl)
 
+  -- one of these says it of each row
+  ruleset here = (replicate-in, post-in, element-in, immediate-in, scalar-in, contiguous-in, block-in)
+
   pub in-range : InRange (readOf w)
   unfolding readOf families
   in-range =
       first-each InRange (choices families w) Outside
-      (search (replicate-in, post-in, element-in, immediate-in, scalar-in, contiguous-in, block-in) depth 15) tt
+      (search here & search here & search here & search here & search here & search here & search here & search here & search here & tt) tt

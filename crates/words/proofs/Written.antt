@@ -4,7 +4,7 @@ use Prim.Native.Nat.{ℕ, _^_, _<_}
 use mathlib.Core.Path.{_≡_, refl}
 use mathlib.Core.Bool.{true, false}
 use borrow.Author.Tests.{eqb-true}
-use Rattle.ground.proofs.Laws.{and-left, and-right, first-each}
+use Rattle.ground.proofs.Laws.{and-left, and-right, _&_, first-each}
 use Rattle.ground.specs.Pieces.{widths}
 use Rattle.ground.proofs.Pieces.{Placed, placed-fit, relaid, halves}
 use Rattle.words.specs.Families.{families, choices, readOf}
@@ -14,10 +14,6 @@ use Rattle.words.specs.Insns.{Decoded, Outside}
 
 -- what a row's tests say of the word
 ruleset met = (eqb-true, and-left, and-right)
-
-infixr 3 _&_
-abbrev _&_ : {A B : Type 0} → A → B → A × B
-a & b = (a, b)
 
 module _ (w : ℕ) (h : w < 2 ^ 32) where
   abbrev Found : Decoded → Type 0
