@@ -44,7 +44,8 @@ module _ (p : Plan) (pred s : List ℕ) (narrower : bytesOf (p .size) ≤ bytesO
 
   -- its own lanes
   own-byte : (i : ℕ) → i < k * lane
-      → byteFrom s 0 (decidingBits (p .rule) pred) (strideOf (p .rule) (bytesOf (p .size))) (p .signed) (bytesOf (p .size)) lane i ≡ registerByte answer p pred i
+      → byteFrom s 0 (decidingBits (p .rule) pred) (strideOf (p .rule) (bytesOf (p .size))) (p .signed)
+      (bytesOf (p .size)) lane i ≡ registerByte answer p pred i
   unfolding byteFrom laneFrom registerByte laneValue answersFrom
   own-byte i h =
       let few : i / lane < k = div-lt-iff-lt-mul (bytes-some (p .lane)) .1 h in

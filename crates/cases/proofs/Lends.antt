@@ -16,8 +16,10 @@ cut s at n = rw add-sub-cancel-left
 
 -- a step of the parts is a step of what the case lends
 pub as-lent : (s : List ℕ) (c : Case) {vectors scalars ram predicates flash flashRights ramRights : List ℕ}
-    → vectors ≡ bytesFrom s 96 (c .vectors) → scalars ≡ scalarsIn s c → ram ≡ bytesFrom s (ramAt c) (c .ram) → predicates ≡ bytesFrom s (predicatesAt c) (c .predicates)
-    → flash ≡ bytesFrom s (flashAt c) (c .flash) → flashRights ≡ bytesFrom s (flashRightsAt c) (c .«flash_rights») → ramRights ≡ bytesFrom s (ramRightsAt c) (c .«ram_rights»)
+    → vectors ≡ bytesFrom s 96 (c .vectors) → scalars ≡ scalarsIn s c → ram ≡ bytesFrom s (ramAt c) (c .ram)
+    → predicates ≡ bytesFrom s (predicatesAt c) (c .predicates)
+    → flash ≡ bytesFrom s (flashAt c) (c .flash) → flashRights ≡ bytesFrom s (flashRightsAt c) (c .«flash_rights»)
+    → ramRights ≡ bytesFrom s (ramRightsAt c) (c .«ram_rights»)
     → (r : StepResult) {z x : List ℕ}
     → (let l = lentOf (c .settings) predicates (c .map) flash flashRights ramRights in
     StepPromise l (c .word) (benchOf vectors scalars ram) r l (benchOf z x ram))

@@ -10,7 +10,7 @@ use borrow.Author.Count.{below-more}
 use borrow.Author.Tests.{ltb-true, ltb-false}
 use lib.Dec.{ltb}
 use lib.ListN.{length, getD, set, take, drop, length-append, length-take, length-drop}
-use lib.Seq.{ext-getD, getD-set-same, getD-set-other, drop-drop, take-take, take-append-le, drop-append-add, take-at, drop-at, take-length, drop-length}
+use lib.Seq.{ext-getD, getD-set-same, getD-set-other, drop-drop, drop-append-add, take-at, take-length, drop-length}
 use Rattle.ground.specs.Lists.{listed, replaced}
 use Rattle.ground.proofs.Laws.{true-or-false, length-listed, getD-listed, length-replaced, replaced-below, replaced-in}
 
@@ -42,7 +42,7 @@ back-in xs ys zs a n e =
 pub copied-over : (src dst : List ℕ) → length dst ≡ length src → take (length src) src ++ drop (length src) dst ≡ src
 copied-over src dst size = rw (take-length, ← size, drop-length, append-nil)
 
--- two parts that touch, the upper one put in after the lower one, and before it
+-- two parts that touch, the upper one put in after the lower one
 module _ (xs : List ℕ) (a n m : ℕ) (ys zs : List ℕ) (fits : a + n ≤ length xs) where
   joined : take a xs ++ (ys ++ (zs ++ drop (a + n + m) xs)) ≡ replaced xs a (n + m) (ys ++ zs)
   unfolding replaced
@@ -59,15 +59,6 @@ module _ (xs : List ℕ) (a n m : ℕ) (ys zs : List ℕ) (fits : a + n ≤ leng
       let above : drop (a + n + m) (below ++ drop (a + n) xs) ≡ drop (a + n + m) xs =
       ap (λ (k : ℕ). drop (k + m) (below ++ drop (a + n) xs)) (sym long) ∙ drop-append-add below (drop (a + n) xs) m ∙ drop-drop m (a + n) xs in
       rw (inner, take-at below (drop (a + n) xs) (a + n) long, above, append-assoc) joined
-
-  pub replaced-before : replaced (replaced xs (a + n) m zs) a n ys ≡ replaced xs a (n + m) (ys ++ zs)
-  unfolding replaced
-  replaced-before =
-      let below : List ℕ = take (a + n) xs in
-      let long : length below ≡ a + n = simp length-take (omega arith) in
-      let rest : List ℕ = zs ++ drop (a + n + m) xs in
-      let first : take a (below ++ rest) ≡ take a xs = take-append-le a below rest (omega (arith, long)) ∙ take-take a (a + n) xs (omega arith) in
-      rw (first, drop-at below rest (a + n) long) joined
 
 -- a part from place 1 on, and the first element
 pub first-set : (xs : List ℕ) (m : ℕ) (ws : List ℕ) (v : ℕ) → 1 ≤ length xs → set (replaced xs 1 m ws) 0 v ≡ v ∷ (ws ++ drop (1 + m) xs)

@@ -110,7 +110,7 @@ abbrev pub table : List StarredCase
 table = starred ++ ours
 
 pub readings : allRight table ≡ true
-unfolding replaced sizeOf dtypes dtypeOf scalarOf families readOf movedOf isAreaAccepted shareNone areAreasAccepted covers placeOf judged lookOf readingOf isAccepted signed4
-    spreadOf governingBytes bitOf isActive wanted asked laneTakes elementAt answersIn surveyOf extended laneValue registerByte registerOf baseAfter scalarsAfter
-    benchAfter outcomeOf checksStack stackFails refusals plannedLoad plannedOf preparedOf stepOf
+unfolding replaced sizeOf dtypes dtypeOf scalarOf families readOf movedOf isAreaAccepted shareNone areAreasAccepted covers placeOf judged lookOf readingOf
+    isAccepted signed4 spreadOf governingBytes bitOf isActive wanted asked laneTakes elementAt answersIn surveyOf extended laneValue registerByte registerOf
+    baseAfter scalarsAfter benchAfter outcomeOf checksStack stackFails refusals plannedLoad plannedOf preparedOf stepOf
 readings = refl

@@ -105,7 +105,9 @@ module _ (l : Lent) (b : Bench) (l′ : Lent) (b′ : Bench) (accepted : Accepte
         ∙ ap (surveyOf (answersOf l′ b′ p) p) (same-governing p)
 
     some : 0 < p .elements
-    some = let fine = in-range-of w i (ready .defined .reads) in plan-in-range (l .settings .vl) (b .scalars) (accepted .allowed) i fine (i .shape) (fine .shape) .some
+    some =
+        let fine = in-range-of w i (ready .defined .reads) in plan-in-range (l .settings .vl) (b .scalars) (accepted .allowed) i fine (i .shape)
+        (fine .shape) .some
 
     afters : SameBytes l w b l′ b′ → Same l (benchAfter (answersOf l b p) l b p) l′ (benchAfter (answersOf l′ b′ p) l′ b′ p)
     unfolding benchAfter
@@ -121,7 +123,8 @@ module _ (l : Lent) (b : Bench) (l′ : Lent) (b′ : Bench) (accepted : Accepte
           ram = same .ram;
           vectors =
               ap (replaced (b .vectors) (p .target * (l .settings .vl / 8)) (l .settings .vl / 8)) (r (l .settings .vl / 8))
-              ∙ (λ j. let n = same .settings j .vl / 8 in replaced (same .vectors j) (p .target * n) n (registerOf (answersOf l′ b′ p) p (governingBytes l′ p) n));
+              ∙ (λ j. let n = same .settings j .vl / 8 in replaced (same .vectors j) (p .target * n) n
+              (registerOf (answersOf l′ b′ p) p (governingBytes l′ p) n));
           scalars = ap (scalarsAfter p) (same .scalars);
         }
 

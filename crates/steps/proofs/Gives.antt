@@ -27,7 +27,6 @@ use Rattle.steps.specs.Demand1.{FirstBad, Counted, Wide, On, Defined, Re
 use Rattle.steps.specs.declared.Plan.{Plan}
 use Rattle.steps.specs.declared.Planned.{Planned}
 use Rattle.steps.proofs.Fields.{elements-few}
-use Rattle.steps.proofs.Actives.{active-exactly}
 use Rattle.steps.proofs.Accepts.{accepted-exactly}
 use Rattle.steps.proofs.Walks.{many, walk-clear, walk-stopped, clear-or-stopped}
 use Rattle.steps.proofs.Counts.{counted-most, counted-once}
@@ -60,7 +59,8 @@ module _ (l : Lent) (w : ℕ) (b : Bench) where
       let f = stops-first l b i a long s in
       let t = s .to in
       let n : 0 + many (want l b i a long) 0 (s .element - 0) ≡ many (want l b i a long) 0 (s .element) = rw (zero-add, sub-zero) in
-      let step-given : surveyOf (answer l b i a long) (plan i) (governingBytes l (plan i)) ≡ reportWith (faultNumber (s .kind)) (many (want l b i a long) 0 (s .element))
+      let step-given : surveyOf (answer l b i a long) (plan i) (governingBytes l (plan i)) ≡ reportWith (faultNumber (s .kind))
+      (many (want l b i a long) 0 (s .element))
       (s .element) (byteAt l (b .scalars) i (s .element) (f .0)) =
       survey-is l b i a long ∙ walk-stopped (want l b i a long) (answer l b i a long) 0 0 (elements l b i a long) s
       ∙ (λ j. reportWith (faultNumber (s .kind)) (n j) (s .element) (f .2 j)) in
@@ -150,7 +150,8 @@ module _ (l : Lent) (w : ℕ) (b : Bench) where
       (and-right (isWide (i .shape)) _ t) in omega arith)
 
   -- a defined load comes to the stack rule
-  defined : (i : Insn) (d : Defined l w b i) → of-load i ≡ (if stackFails (b .scalars) (plan i) (governingBytes l (plan i)) then Stop (refusalReport 5) else Go (plan i))
+  defined : (i : Insn) (d : Defined l w b i)
+      → of-load i ≡ (if stackFails (b .scalars) (plan i) (governingBytes l (plan i)) then Stop (refusalReport 5) else Go (plan i))
   unfolding plannedLoad refusals
   defined i d = rw (f64mm-fine i (d .f64mm), on-exactly l (i .shape) .1 (d .on), length-fine i (d .long))
 

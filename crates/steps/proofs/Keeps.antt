@@ -4,7 +4,6 @@ use Prim.Native.Nat.{ℕ}
 use borrow.Author.Tests.{ne-eqb}
 use Rattle.ground.proofs.Laws.{if-cases}
 use Rattle.steps.specs.Benches.{Lent, Bench, isAccepted}
-use Rattle.steps.specs.Answers.{reportWith}
 use Rattle.steps.specs.Outcomes.{Outcome, outcomeOf}
 use Rattle.steps.specs.Step.{Prepared, Stop, Go, preparedOf, carriedOut, stepOf}
 

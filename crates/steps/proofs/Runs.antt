@@ -6,7 +6,6 @@ use native.Mathlib.Nat.{zero-add, zero-mod}
 use native.Mathlib.Omega.{arith}
 use lib.ListN.{length, getD}
 use Rattle.ground.specs.Choices.{if_then_else_}
-use Rattle.ground.specs.Lists.{little}
 use Rattle.ground.proofs.Laws.{off, little-cong, little-below}
 use Rattle.words.specs.Families.{readOf}
 use Rattle.steps.specs.Insns.{Insn, Is}
@@ -104,7 +103,8 @@ module _ (l : Lent) (w : ℕ) (b : Bench) (i : Insn) (ready : Ready l w b i) (al
   unfolding laneValue
   nothing-said k h none =
       let a = ready .defined .accepted in
-      rw (off (laneTakes plan (governingBytes l plan) k) (λ t. none _ (there-takes l (b .scalars) (a .allowed) i (i .shape) (fine .shape) (ready .defined .long) k h t)))
+      rw (off (laneTakes plan (governingBytes l plan) k)
+      (λ t. none _ (there-takes l (b .scalars) (a .allowed) i (i .shape) (fine .shape) (ready .defined .long) k h t)))
 
   pub ran-leaves : Leaves l b i l after
   unfolding benchAfter

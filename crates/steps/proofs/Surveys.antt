@@ -53,7 +53,8 @@ module _ (l : Lent) (b : Bench) (i : Insn) (a : Accepted l b) (long : Wide i →
 
   pub counts-all : Counted (Active l i) elementLimit (many want 0 elements)
   counts-all =
-      let n : elements + (elementLimit - elements) ≡ elementLimit = let k = elements-few (l .settings .vl) (b .scalars) i (i .shape) (a .allowed .largest) in omega arith in
+      let n : elements + (elementLimit - elements) ≡ elementLimit = let k = elements-few (l .settings .vl) (b .scalars) i (i .shape)
+      (a .allowed .largest) in omega arith in
       rw n at (counts-beyond (elementLimit - elements))
 
   pub count-exists : (e : ℕ) → (n : ℕ) × Counted (Active l i) e n

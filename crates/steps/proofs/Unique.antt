@@ -47,7 +47,8 @@ result-unique r s e = sym (again r) ∙ ap resultOf e ∙ again s
 pub answers-told : (n : ℕ) (a : Address) (e : ℕ)
     → map (λ x. reportOf (record { count = n; answer = x }))
     (Ran ∷ SetUp ∷ Outside ∷ Undefined ∷ SwitchedOff ∷ Stack ∷ Faulted Nowhere a e ∷ Faulted Denied a e ∷ [])
-    ≡ reportWith 0 n 0 0 ∷ reportWith 1 n 0 0 ∷ reportWith 2 n 0 0 ∷ reportWith 3 n 0 0 ∷ reportWith 4 n 0 0 ∷ reportWith 5 n 0 0 ∷ reportWith 6 n e (a .0) ∷ reportWith 7 n e (a .0) ∷ []
+    ≡ reportWith 0 n 0 0 ∷ reportWith 1 n 0 0 ∷ reportWith 2 n 0 0 ∷ reportWith 3 n 0 0 ∷ reportWith 4 n 0 0 ∷ reportWith 5 n 0 0 ∷ reportWith 6 n e
+    (a .0) ∷ reportWith 7 n e (a .0) ∷ []
 answers-told n a e = refl
 
 pub allowed-unique : (vl : ℕ) (r s : Bool) → r ≡ isLengthAllowed vl → s ≡ isLengthAllowed vl → r ≡ s

@@ -9,7 +9,8 @@ use Rattle.ground.proofs.Laws.{if-cases, first-each, _&_}
 use Rattle.ground.specs.Sizes.{bytesOf, sizeOf}
 use Rattle.ground.specs.Pieces.{bits}
 use Rattle.words.specs.Dtypes.{plainOf}
-use Rattle.words.specs.Insns.{insnWith, Shape, Replicate, ByElement, Contiguous, Block, None, By, Dtype, Offset, Back, Post, Decoded, Outside, Undefined, Is}
+use Rattle.words.specs.Insns.{insnWith, Shape, Replicate, ByElement, Contiguous, Block, None, By}
+use Rattle.words.specs.Insns.{Dtype, Offset, Back, Post, Decoded, Outside, Undefined, Is}
 use Rattle.words.specs.Families.{replicateOf, sveOf, byElementOf, contiguousOf, blockOf, immediate, register, scalarOf, families, choices, readOf}
 use Rattle.words.specs.Ranges.{OffsetInRange, BackInRange, Governed, ShapeInRange, InsnInRange, InRange}
 use Rattle.words.proofs.DtypeRule.{never-wider}

@@ -53,8 +53,7 @@ carry-out-spec =
     let g = c .before .before .before .before .before .before .before .before in
     let a = accepted-exactly _ _ .0 (g .pre .0) in
     (g .pre .1 .0, (lanes-in (g .args .settings .vl) (a .allowed) .0, a .predicates)))
-    (λ c κs. let s = g (c .before) in (s .pre .1 .0, accepted-exactly _ _ .0 (s .pre .0) .scalars))
-    (λ c κs. tt) (λ c. refl)
+    (λ c κs. let s = g (c .before) in (s .pre .1 .0, accepted-exactly _ _ .0 (s .pre .0) .scalars)) (λ c κs. tt) (λ c. refl)
     (λ c. at-stack _ _ _ _ (governed (c .before .before .before .before)) (sym (c .before .before .stack-fails .ensures) ∙ c .before .if1 .taken) _
     (c .ended .ensures))
     (λ c κs. let t = c .before .before .before .before .before in let a = accepted-exactly _ _ .0 (g t .pre .0) in (a .areas, (fit t, a .vectors)))

@@ -18,7 +18,5 @@ module _ (c : tie.Then1) where
 pub files-accepted-spec : {M : Type 1} → statement M
 files-accepted-spec =
     tie.close (tie.spec (λ c κs. tt)
-    (λ c. record { fits = omega (arith, largest c) })
-    (λ c. record { fits = omega (arith, largest c) })
-    (λ c. rw (allowed c))
+    (λ c. record { fits = omega (arith, largest c) }) (λ c. record { fits = omega (arith, largest c) }) (λ c. rw (allowed c))
     (λ c. rw (sym (c .before .allowed .ensures) ∙ c .if1 .left)))

@@ -14,8 +14,7 @@ answer-spec =
     let t = c .before .before in
     let e = sym (t .before .before .head .ensures) ∙ t .case .given .1 in
     rw e at (within-limits (t .before .before .before .before .before .args .s .now)))
-    (λ c. let e = sym (c .before .before .before .head .ensures) ∙ c .before .why .given .1 in rw e)
-    (λ c. search needs)
+    (λ c. let e = sym (c .before .before .before .head .ensures) ∙ c .before .why .given .1 in rw e) (λ c. search needs)
     (λ c.
     let t = c .before .before .before .before .before in
     let e = sym (t .before .before .head .ensures) ∙ t .case .given .1 in

@@ -14,8 +14,6 @@ cast-single c =
 pub as-asked-spec : {M : Type 1} → statement M
 as-asked-spec =
     tie.close (tie.spec (λ c. search needs) (λ c. search needs)
-    cast-single
-    (λ c κs. tt) (λ c. search needs) (λ c κs. tt)
-    (λ c. rw (c .enum-told .given .1))
+    cast-single (λ c κs. tt) (λ c. search needs) (λ c κs. tt) (λ c. rw (c .enum-told .given .1))
     (λ c. rw (c .before .enum-told2 .given .1) (c .single .ensures))
     (λ c. rw (c .before .enum-told3 .given .1) (c .double .ensures)))

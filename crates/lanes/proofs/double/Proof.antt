@@ -7,7 +7,6 @@ use Rattle.lanes.proofs.double.Tie as tie
 
 pub double-spec : {M : Type 1} → statement M
 double-spec =
-    tie.close (tie.spec
-    (λ c. let h = c .if1 .left in plain binary64 _ (omega arith))
+    tie.close (tie.spec (λ c. let h = c .if1 .left in plain binary64 _ (omega arith))
     (λ c. let h = c .if1 .taken in above-infinity binary64 _ (omega arith))
     (λ c. let h = c .if1 .left in to-infinity binary64 _ (omega arith)))

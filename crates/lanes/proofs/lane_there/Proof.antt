@@ -11,32 +11,19 @@ use Rattle.lanes.proofs.Tests.{width-exactly, in-bytes}
 use Rattle.lanes.proofs.lane_there.Statement.{statement}
 use Rattle.lanes.proofs.lane_there.Tie as tie
 
-allowed-requires : tie.Need-allowed-requires
-allowed-requires c κs = search needs
-
-width-fits-requires : tie.Need-width-fits-requires
-width-fits-requires c κs = search needs
-
-mul-result : tie.Need-mul-result
-mul-result c =
+pub lane-there-spec : {M : Type 1} → statement M
+unfolding laneThere
+lane-there-spec =
+    tie.close (tie.spec (λ c κs. search needs)
+    (λ c κs. search needs)
+    (λ c.
     let vl = c .before .before .before .args .vl in
     let largest : vl ≤ 2048 = length-exactly vl .0 (sym (c .before .before .allowed .ensures) ∙ and-left _ _ (c .if1 .taken)) .largest in
-    record { fits = omega arith }
-
-div-result : tie.Need-div-result
-div-result c =
+    record { fits = omega arith })
+    (λ c.
     let a = c .before .before .before .args in
-    let fits : widthFits (a .kind) (a .width) ≡ true = sym (c .before .width-fits .ensures) ∙ and-right (c .before .before .allowed .result) _ (c .if1 .taken) in
-    in-bytes (a .kind) (a .width) (width-exactly (a .kind) (a .width) .0 fits) .some
-
-returns : tie.Need-returns
-unfolding laneThere
-returns c = rw (← c .before .before .allowed .ensures, ← c .before .width-fits .ensures, c .if1 .taken)
-
-returns-2 : tie.Need-returns-2
-unfolding laneThere
-returns-2 c = rw (← c .before .before .allowed .ensures, ← c .before .width-fits .ensures, c .if1 .left)
-
-pub lane-there-spec : {M : Type 1} → statement M
-lane-there-spec =
-    tie.close (tie.spec allowed-requires width-fits-requires mul-result div-result returns returns-2)
+    let fits : widthFits (a .kind) (a .width) ≡ true = sym (c .before .width-fits .ensures)
+    ∙ and-right (c .before .before .allowed .result) _ (c .if1 .taken) in
+    in-bytes (a .kind) (a .width) (width-exactly (a .kind) (a .width) .0 fits) .some)
+    (λ c. rw (← c .before .before .allowed .ensures, ← c .before .width-fits .ensures, c .if1 .taken))
+    (λ c. rw (← c .before .before .allowed .ensures, ← c .before .width-fits .ensures, c .if1 .left)))

@@ -7,9 +7,6 @@ use Rattle.lanes.proofs.place.Tie as tie
 
 pub place-spec : {M : Type 1} → statement M
 place-spec =
-    tie.close (tie.spec
-    (λ c. let far = c .pre in record { fits = omega arith })
-    (λ c. search needs)
-    (λ c. let far = c .pre in record { fits = omega arith })
-    (λ c. let far = c .pre in record { fits = omega arith })
+    tie.close (tie.spec (λ c. let far = c .pre in record { fits = omega arith })
+    (λ c. search needs) (λ c. let far = c .pre in record { fits = omega arith }) (λ c. let far = c .pre in record { fits = omega arith })
     (λ c. refl))

@@ -26,8 +26,7 @@ pub show-spec : {M : Type 1} → statement M
 unfolding shownOf
 show-spec =
     tie.close (tie.spec (λ c κs. tt)
-    (λ c κs. in-word (is-there c))
-    (λ c. search needs) (λ c κs. tt)
+    (λ c κs. in-word (is-there c)) (λ c. search needs) (λ c κs. tt)
     (λ c κs.
     rw (gathered (c .before .before) _ _ (c .number .ensures .0), c .before .place .ensures)
     (lane-fitting (is-there (c .before .before)) (λ k. omega (arith, c .before .before .before .before .shared-slice-known .given k))))

@@ -7,7 +7,6 @@ use Rattle.lanes.proofs.single.Tie as tie
 
 pub single-spec : {M : Type 1} → statement M
 single-spec =
-    tie.close (tie.spec
-    (λ c. let h = c .if1 .left in plain binary32 _ (omega arith))
+    tie.close (tie.spec (λ c. let h = c .if1 .left in plain binary32 _ (omega arith))
     (λ c. let h = c .if1 .taken in above-infinity binary32 _ (omega arith))
     (λ c. let h = c .if1 .left in to-infinity binary32 _ (omega arith)))

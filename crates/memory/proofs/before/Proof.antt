@@ -8,11 +8,7 @@ use Rattle.memory.proofs.Tests.{leb-same}
 use Rattle.memory.proofs.before.Statement.{statement}
 use Rattle.memory.proofs.before.Tie as tie
 
-returns : tie.Need-returns
-returns c = let a = c .before .args in sym (lt-leb (a .start .0 + a .n) (a .other .0) (omega arith))
-
-returns-2 : tie.Need-returns-2
-returns-2 c = let a = c .before .args in leb-same (a .n) (a .other .0 - a .start .0) (a .start .0 + a .n) (a .other .0) (omega arith) (omega arith)
-
 pub before-spec : {M : Type 1} → statement M
-before-spec = tie.close (tie.spec returns returns-2)
+before-spec = tie.close (tie.spec
+    (λ c. let a = c .before .args in sym (lt-leb (a .start .0 + a .n) (a .other .0) (omega arith)))
+    (λ c. let a = c .before .args in leb-same (a .n) (a .other .0 - a .start .0) (a .start .0 + a .n) (a .other .0) (omega arith) (omega arith)))

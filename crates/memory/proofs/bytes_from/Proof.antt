@@ -39,75 +39,27 @@ module _ {i n : ℕ} (h : i < n) (few : n ≤ 8) where
   less : n - (i + 1) < n - i
   less = omega arith
 
-loop-holds : tie.Need-loop-holds Inv-loop μ-loop
-loop-holds c = begun _ _ _
-
-byte-requires : tie.Need-byte-requires Inv-loop μ-loop
-byte-requires c κs = tt
-
-enum-known-f : tie.Need-enum-known-f Inv-loop μ-loop
-enum-known-f c = c .match .keys1
-
-returns : tie.Need-returns Inv-loop μ-loop
-returns c =
+pub bytes-from-spec : {M : Type 1} → statement M
+bytes-from-spec =
+    tie.close (tie.spec Inv-loop
+    μ-loop (λ c. begun _ _ _) (λ c κs. tt) (λ c. c .match .keys1)
+    (λ c.
     let t = c .before .before .before .before in
     let f = c .before .f .given in
-    bad-byte (t .before .loop .inv) (t .loop-test .taken) (G t .pre) (f .0 .0) (sym (c .before .before .before .byte .ensures) ∙ f .1)
-
-enum-known-b : tie.Need-enum-known-b Inv-loop μ-loop
-enum-known-b c = c .match .keys2
-
-cast-value : tie.Need-cast-value Inv-loop μ-loop
-cast-value c = search needs
-
-mul-value : tie.Need-mul-value Inv-loop μ-loop
-mul-value c = let t = c .before .before .before .before in scaled-fits (t .loop-test .taken) (G t .pre)
-
-shl-value : tie.Need-shl-value Inv-loop μ-loop
-shl-value c = let t = c .before .before .before .before in scaled-small (t .loop-test .taken) (G t .pre)
-
-add-value : tie.Need-add-value Inv-loop μ-loop
-add-value c =
+    bad-byte (t .before .loop .inv) (t .loop-test .taken) (G t .pre) (f .0 .0) (sym (c .before .before .before .byte .ensures) ∙ f .1))
+    (λ c. c .match .keys2) (λ c. search needs)
+    (λ c. let t = c .before .before .before .before in scaled-fits (t .loop-test .taken) (G t .pre))
+    (λ c. let t = c .before .before .before .before in scaled-small (t .loop-test .taken) (G t .pre))
+    (λ c.
     let t = c .before .before .before .before in
-    record { fits = in-word (t .before .loop .inv) (t .loop-test .taken) (G t .pre) (c .before .b .given .0 .0) (omega arith) }
-
-plus-requires : tie.Need-plus-requires Inv-loop μ-loop
-plus-requires c κs = tt
-
-add-i : tie.Need-add-i Inv-loop μ-loop
-add-i c = let t = c .before .before .before .before .before in next-fits (t .loop-test .taken) (G t .pre)
-
-loop-less : tie.Need-loop-less Inv-loop μ-loop
-loop-less c = let t = c .before .before .before .before .before in less (t .loop-test .taken) (G t .pre)
-
-loop-again : tie.Need-loop-again Inv-loop μ-loop
-loop-again c =
+    record { fits = in-word (t .before .loop .inv) (t .loop-test .taken) (G t .pre) (c .before .b .given .0 .0) (omega arith) })
+    (λ c κs. tt)
+    (λ c. let t = c .before .before .before .before .before in next-fits (t .loop-test .taken) (G t .pre))
+    (λ c. let t = c .before .before .before .before .before in less (t .loop-test .taken) (G t .pre))
+    (λ c.
     let t = c .before .before .before .before .before in
     let b = c .before .before .b .given .0 .0 in
     rw (c .plus .ensures)
     (turned (t .before .loop .inv) (t .loop-test .taken) (G t .pre) b (omega arith)
-    (sym (c .before .before .before .before .byte .ensures) ∙ c .before .before .b .given .1))
-
-returns-2 : tie.Need-returns-2 Inv-loop μ-loop
-returns-2 c = finished (c .before .loop .inv) (c .loop-test .left)
-
-pub bytes-from-spec : {M : Type 1} → statement M
-bytes-from-spec =
-    tie.close
-    (tie.spec
-    Inv-loop
-    μ-loop
-    loop-holds
-    byte-requires
-    enum-known-f
-    returns
-    enum-known-b
-    cast-value
-    mul-value
-    shl-value
-    add-value
-    plus-requires
-    add-i
-    loop-less
-    loop-again
-    returns-2)
+    (sym (c .before .before .before .before .byte .ensures) ∙ c .before .before .b .given .1)))
+    (λ c. finished (c .before .loop .inv) (c .loop-test .left)))

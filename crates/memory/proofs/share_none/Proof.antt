@@ -8,6 +8,5 @@ pub share-none-spec : {M : Type 1} → statement M
 unfolding shareNone
 share-none-spec =
     tie.close (tie.spec (λ c κs. tt)
-    (λ c. rw (sym (c .before .before2 .ensures) ∙ c .if1 .taken))
-    (λ c κs. tt)
+    (λ c. rw (sym (c .before .before2 .ensures) ∙ c .if1 .taken)) (λ c κs. tt)
     (λ c. rw (c .before3 .ensures, sym (c .before .before .before2 .ensures) ∙ c .before .if1 .left)))

@@ -9,8 +9,7 @@ pub plan-load-spec : {M : Type 1} → statement M
 unfolding plannedLoad refusals
 plan-load-spec =
     tie.close (tie.spec (λ c κs. tt)
-    (λ c. rw (rw (c .before .before .is-wide .ensures) at (c .if1 .taken)))
-    (λ c κs. tt)
+    (λ c. rw (rw (c .before .before .is-wide .ensures) at (c .if1 .taken))) (λ c κs. tt)
     (λ c.
     let t = c .before .before in
     rw (rw (t .before .before .is-wide .ensures) at (t .if1 .left), sym (c .before .switched-off .ensures) ∙ c .if2 .taken))

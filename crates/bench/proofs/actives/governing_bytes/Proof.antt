@@ -51,6 +51,5 @@ pub governing-bytes-spec : {M : Type 1} → statement M
 governing-bytes-spec =
     tie.close (tie.spec (λ c. c .match .keys1) (λ c. search needs) (λ c. search needs) (λ c. search needs) (λ c. c .match .keys2)
     (λ c. fits-below {n = 8} tt (le-of-lt (low c))) (λ c. small c (le-add-right _ _)) (λ c. small c (le-refl _))
-    (λ c. le-add-right _ _) (λ c. le-add-right _ _) (λ c. fits c .0)
-    (λ c. rw (c .before .enum-told .given .1))
+    (λ c. le-add-right _ _) (λ c. le-add-right _ _) (λ c. fits c .0) (λ c. rw (c .before .enum-told .given .1))
     (λ c. rw (c .before .before .by .given .1, whole (c .before))))

@@ -19,8 +19,7 @@ abbrev μ-loop : tie.MeasureT-loop
 pub some-active-spec : {M : Type 1} → statement M
 some-active-spec =
     tie.close (tie.spec Inv-loop μ-loop
-    (λ c. (omega arith, refl))
-    (λ c κs. omega arith)
+    (λ c. (omega arith, refl)) (λ c κs. omega arith)
     (λ c. sym (any-of _ _ _ (c .before .before .loop-test .taken) (sym (c .before .lane-active .ensures) ∙ c .if1 .taken)))
     (λ c. omega arith) (λ c. omega arith)
     (λ c. (omega arith, rw add-one (rw (c .before .before .before .loop .inv .1) (sym (c .before .lane-active .ensures) ∙ c .if1 .left))))

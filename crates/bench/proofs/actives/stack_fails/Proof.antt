@@ -11,7 +11,6 @@ pub stack-fails-spec : {M : Type 1} → statement M
 unfolding stackFails
 stack-fails-spec =
     tie.close (tie.spec (λ c. search needs)
-    (λ c. rw (eq-eqb _ _ (c .if2 .taken), and-false))
-    (λ c κs. search needs)
+    (λ c. rw (eq-eqb _ _ (c .if2 .taken), and-false)) (λ c κs. search needs)
     (λ c. c .checks-stack .ensures ∙ rw (ne-eqb _ _ (c .before .if2 .left), eq-eqb _ _ (c .before .before .before .if1 .taken), and-true))
     (λ c. rw (ne-eqb _ _ (c .if1 .left))))

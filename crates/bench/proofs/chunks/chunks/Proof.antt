@@ -54,11 +54,8 @@ chunks-spec =
     tie.close (tie.spec Inv-loop μ-loop
     (λ c. some-width _ (c .before .before .before .pre .0 .even))
     (λ c. let g = c .before .before .before in fits-below {n = 64} tt (mul-le-mul (div-le-self 8 (g .args .width)) (g .pre .0 .near)))
-    (λ c. (zero-le, rw (zero-mul _), unfilled _ _ _))
-    (λ t. let f = few t in fits-below {n = 256} tt (omega arith))
-    (λ t. let f = few t in fits-below {n = 256} tt (omega arith))
-    (λ t. le-add-right _ _) (λ t. le-add-right _ _)
-    (λ t. room t)
+    (λ c. (zero-le, rw (zero-mul _), unfilled _ _ _)) (λ t. let f = few t in fits-below {n = 256} tt (omega arith))
+    (λ t. let f = few t in fits-below {n = 256} tt (omega arith)) (λ t. le-add-right _ _) (λ t. le-add-right _ _) (λ t. room t)
     (λ t. let u = t .before in fits-le (start-in (g u .pre .0) (c u) (u .loop-test .taken)) (record { fits = g u .good .1 .0 .0 }))
     (λ t. let u = t .before .before in le-trans (u .loop-test .taken) (g u .pre .2))
     (λ t κs. let u = t .before .before in (part-length (u .before .loop .dst) (c u * 8) 8 (room u), chunk-in (g u .pre .0) (c u) (u .loop-test .taken)))

@@ -29,11 +29,9 @@ module _ (c : tie.After-shared-slice-known Inv-loop μ-loop) where
 pub whole-spec : {M : Type 1} → statement M
 whole-spec =
     tie.close (tie.spec Inv-loop μ-loop
-    (λ c. (omega arith, refl))
-    (λ c. search needs) (λ c. search needs)
+    (λ c. (omega arith, refl)) (λ c. search needs) (λ c. search needs)
     (λ c. omega (arith, c .shared-slice-known .given (c .before .before .before .args .at + c .before .before .loop .i)))
-    (λ c. let m = more c in record { fits = omega arith })
-    (λ c. let m = more c in omega arith)
+    (λ c. let m = more c in record { fits = omega arith }) (λ c. let m = more c in omega arith)
     (λ c. record { fits = rw (c .before .before .loop .inv .1) (in-word (byte c) (small c) (c .before .before .loop .i) (more c)) })
     (λ c. search needs) (λ c. search needs)
     (λ c. (omega (arith, c .before .loop-test .taken), rw (c .before .before .loop .inv .1) (turned (byte c) (small c) (c .before .before .loop .i) (more c))))

@@ -23,8 +23,7 @@ unfolding extended
 widened-spec =
     tie.close (tie.spec (λ c. search needs) (λ c. search needs) (λ c. search needs)
     (λ c. rw (is (c .before)) (few (c .before) .0))
-    (λ c. rw (is (c .before)) (record { fits = omega (arith, few (c .before)) }))
-    (λ c. rw (is (c .before)) (omega (arith, few (c .before))))
+    (λ c. rw (is (c .before)) (record { fits = omega (arith, few (c .before)) })) (λ c. rw (is (c .before)) (omega (arith, few (c .before))))
     (λ c κs. tt)
     (λ c.
     let g = c .before .before in

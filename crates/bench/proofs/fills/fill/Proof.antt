@@ -47,8 +47,7 @@ fill-spec =
     (λ c. (zero-le, unfilled _ _ _))
     (λ c κs. (G c .pre .0, le-trans (le-of-lt (fits c .1)) (G c .pre .1 .0)))
     (λ c. small (c .before) (le-add-right _ _)) (λ c. small (c .before) (le-refl _)) (λ c. le-add-right _ _) (λ c. le-add-right _ _)
-    (λ c. le-trans (fits (c .before) .0) (le-of-eq (sym (c .before .before .loop .inv .1 .size))))
-    (λ c κs. tt)
+    (λ c. le-trans (fits (c .before) .0) (le-of-eq (sym (c .before .before .loop .inv .1 .size)))) (λ c κs. tt)
     (λ c. let t = c .before .before .before .before .before in next-fits (fits t .1) (G t .pre .1 .0))
     (λ c. less (c .before .before .before .before .before .loop-test .taken))
     (λ c.

@@ -19,8 +19,7 @@ abbrev μ-loop : tie.MeasureT-loop
 pub zeros-spec : {M : Type 1} → statement M
 zeros-spec =
     tie.close (tie.spec Inv-loop μ-loop
-    (λ c. (search needs, search needs, λ j l. refl, λ j k l. absurd (omega arith)))
-    (λ c. search needs) (λ c. search needs) (λ c. search needs)
+    (λ c. (search needs, search needs, λ j l. refl, λ j k l. absurd (omega arith))) (λ c. search needs) (λ c. search needs) (λ c. search needs)
     (λ c.
     let t = c .before .loop in (
       omega arith,

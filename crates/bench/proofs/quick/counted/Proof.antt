@@ -6,6 +6,5 @@ use Rattle.bench.proofs.quick.counted.Tie as tie
 pub counted-spec : {M : Type 1} → statement M
 counted-spec =
     tie.close (tie.spec (λ c. c .match .keys1) (λ c. c .match .keys2) (λ c κs. tt) (λ c. c .match .keys3)
-    (λ c. rw (c .enum-told .given .1))
-    (λ c. c .one-if .ensures ∙ rw (c .before .enum-told2 .given .1))
+    (λ c. rw (c .enum-told .given .1)) (λ c. c .one-if .ensures ∙ rw (c .before .enum-told2 .given .1))
     (λ c. rw (c .enum-told3 .given .1)))

@@ -20,8 +20,7 @@ module _ (t : tie.Then1) where
 pub own-lanes-spec : {M : Type 1} → statement M
 own-lanes-spec =
     tie.close (tie.spec (λ c κs. tt) (λ c κs. tt)
-    (λ c. search needs) (λ c. search needs)
-    (λ c. always-room (g c .pre .0) (rule c))
+    (λ c. search needs) (λ c. search needs) (λ c. always-room (g c .pre .0) (rule c))
     (λ c κs. let t = c .before in
     (simp length-take (omega (arith, always-room (g t .pre .0) (rule t))), always-in (g t .pre .0) (rule t) (t .before .before .bytes .ensures)))
     (λ c. search needs)

@@ -26,15 +26,15 @@ survey-spec =
     tie.close (tie.spec Inv-loop μ-loop
     (λ c. begun _ _ _)
     (λ c κs. let g = c .before .before .before .before .before .before .before .before in (g .pre, le-trans (le-of-lt (c .if1 .taken)) (g .pre .elements)))
-    (λ c κs. le-trans (le-of-lt (c .before .before .if1 .taken)) (c .before .before .before .before .before .before .before .before .before .before .pre .elements))
+    (λ c κs. le-trans (le-of-lt (c .before .before .if1 .taken))
+    (c .before .before .before .before .before .before .before .before .before .before .pre .elements))
     (λ c. c .match .keys1) (λ c κs. tt)
     (λ c.
     let t = c .before .before .before .before .before in
     ap reportOf (c .ended .ensures)
     ∙ fault-turn (t .before .before .before .before .loop .inv) (t .before .before .if1 .taken) (sym (t .before .asks .ensures) ∙ t .if2 .taken) _ _
     (sym (c .before .before .before .before .element .ensures) ∙ c .before .before .fault .given .1))
-    (λ c. c .match .keys2)
-    (λ c. search needs)
+    (λ c. c .match .keys2) (λ c. search needs)
     (λ c. next-fits (c .before .before .if1 .taken) (c .before .before .before .before .before .before .before .before .before .before .pre .elements))
     (λ c. less (c .before .before .if1 .taken))
     (λ c.

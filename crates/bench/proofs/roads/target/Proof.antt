@@ -29,9 +29,7 @@ module _ (t : tie.After-struct-known) where
 pub target-spec : {M : Type 1} → statement M
 target-spec =
     tie.close (tie.spec (λ c. fits-below {n = 32} tt (le-of-lt (G c .pre .1 .0 .sound .target)))
-    (λ c. small c (le-add-right _ _)) (λ c. small c (le-refl _))
-    (λ c. le-add-right _ _) (λ c. le-add-right _ _)
-    (λ c. fits c)
+    (λ c. small c (le-add-right _ _)) (λ c. small c (le-refl _)) (λ c. le-add-right _ _) (λ c. le-add-right _ _) (λ c. fits c)
     (λ c κs. let t = c .before in (G t .pre .0, rw (part-length (now (G t .args .z)) (at t) (G t .args .n) (fits t)) (G t .pre .1 .0)))
     (λ c. c .before .z .given .1)
     (λ c. let t = c .before .before .before .before in target-loaded _ _ _ (now (G t .args .z)) (G t .args .n) (fits t) (c .before .before .load .ensures)))

@@ -19,7 +19,8 @@ in-area-spec =
     let at = c .before .before .before .before .before .wrapping-sub-u64 .result in
     let ones = both-ones (getD (now (g .args .rights)) (at / pageBytes) 0 % 2) (getD (now (g .args .rights)) ((at + g .args .n - 1) / pageBytes) 0 % 2)
     (c .before .if3 .taken) in
-    stretch-within (areaOf (g .args .start) (now (g .args .bytes)) (now (g .args .rights))) (g .args .a .0) (g .args .n) at (g .pre .1 .1) (omega arith) (omega arith)
+    stretch-within (areaOf (g .args .start) (now (g .args .bytes)) (now (g .args .rights))) (g .args .a .0) (g .args .n) at (g .pre .1 .1) (omega arith)
+    (omega arith)
     (ones .0) (ones .1))
     (λ c. search needs) (λ c. search needs) (λ c. search needs)
     (λ c. search needs))

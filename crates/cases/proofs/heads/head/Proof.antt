@@ -34,16 +34,14 @@ there c =
 pub head-spec : {M : Type 1} → statement M
 unfolding openedOf
 head-spec =
-    tie.close (tie.spec
-    (λ c. rw (lt-ltb _ _ (c .if1 .taken)))
+    tie.close (tie.spec (λ c. rw (lt-ltb _ _ (c .if1 .taken)))
     (λ c κs. tt)
     (λ c. rw (le-ltb _ _ (c .before .before .if1 .left), other (c .before .number .ensures .0) magic (c .if2 .taken)))
     (λ c.
     let t = c .before .before in
     rw (le-ltb _ _ (t .before .if1 .left), same (t .number .ensures .0) magic (c .before .if2 .left), lt-ltb _ _ (c .if3 .taken)))
     (λ c κs. tt)
-    (λ c. let h = there (c .before) in rw (h .0, h .1, h .2, more (c .before .number2 .ensures .0) 7 (c .if4 .taken)))
-    (λ c κs. tt)
+    (λ c. let h = there (c .before) in rw (h .0, h .1, h .2, more (c .before .number2 .ensures .0) 7 (c .if4 .taken))) (λ c κs. tt)
     (λ c.
     let t = c .before .before in
     let h = there (t .before) in

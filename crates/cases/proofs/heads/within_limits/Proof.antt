@@ -31,10 +31,8 @@ unfolding limited
 within-limits-spec =
     tie.close (tie.spec
     (λ c. search (lt-ltb, le-ltb)) (λ c. search (lt-ltb, le-ltb)) (λ c. search (lt-ltb, le-ltb)) (λ c. search (lt-ltb, le-ltb))
-    (λ c. search (lt-ltb, le-ltb)) (λ c. search (lt-ltb, le-ltb)) (λ c. search (lt-ltb, le-ltb))
-    (λ c. record { fits = omega (arith, short c) })
-    (λ c. record { fits = omega (arith, short (c .before)) })
-    (λ c. record { fits = omega (arith, short (c .before .before)) })
+    (λ c. search (lt-ltb, le-ltb)) (λ c. search (lt-ltb, le-ltb)) (λ c. search (lt-ltb, le-ltb)) (λ c. record { fits = omega (arith, short c) })
+    (λ c. record { fits = omega (arith, short (c .before)) }) (λ c. record { fits = omega (arith, short (c .before .before)) })
     (λ c. record { fits = omega (arith, short (c .before .before)) })
     (λ c. record { fits = omega (arith, short (c .before .before .before)) })
     (λ c. record { fits = omega (arith, short (c .before .before .before .before)) })

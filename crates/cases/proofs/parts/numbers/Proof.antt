@@ -24,11 +24,8 @@ numbers-spec =
     tie.close (tie.spec Inv-loop μ-loop
     (λ c. (omega arith, search needs, λ k l. absurd (omega arith)))
     (λ c. record { fits = omega (arith, place c, c .before .before .before .before .good) })
-    (λ c. record { fits = omega (arith, place c, c .before .before .before .before .good) })
-    (λ c κs. tt)
-    (λ c. search needs)
-    (λ c. omega (arith, c .before .before .loop .inv .1, c .before .loop-test .taken))
-    (λ c. search needs) (λ c. search needs)
+    (λ c. record { fits = omega (arith, place c, c .before .before .before .before .good) }) (λ c κs. tt) (λ c. search needs)
+    (λ c. omega (arith, c .before .before .loop .inv .1, c .before .loop-test .taken)) (λ c. search needs) (λ c. search needs)
     (λ c.
     let t = c .before .before .loop in
     let g = c .before .before .before .before .before .args in (

@@ -31,8 +31,7 @@ put-numbers-spec =
     tie.close (tie.spec Inv-loop μ-loop
     (λ c. (omega arith, unfilled _ _ _))
     (λ c. record { fits = omega (arith, fits c, c .before .before .before .before .good) })
-    (λ c. record { fits = omega (arith, fits c, c .before .before .before .before .good) })
-    (λ c. search needs) (λ c. search needs)
+    (λ c. record { fits = omega (arith, fits c, c .before .before .before .before .good) }) (λ c. search needs) (λ c. search needs)
     (λ c. let s = c .before .loop .inv .1 .size in omega (arith, fits c))
     (λ c. search needs) (λ c. search needs) (λ c κs. tt) (λ c. search needs) (λ c. omega arith)
     (λ c.

@@ -8,8 +8,6 @@ pub of-spec : {M : Type 1} → statement M
 unfolding sizeOf
 of-spec =
     tie.close
-    (tie.spec
-    (λ c. search eq-eqb)
-    (λ c. search (eq-eqb, ne-eqb))
-    (λ c. search (eq-eqb, ne-eqb))
+    (tie.spec (λ c. search eq-eqb)
+    (λ c. search (eq-eqb, ne-eqb)) (λ c. search (eq-eqb, ne-eqb))
     (λ c. search ne-eqb))

@@ -29,10 +29,7 @@ module _ (c : tie.After-byte-on Inv-loop μ-loop) where
 pub number-spec : {M : Type 1} → statement M
 number-spec =
     tie.close (tie.spec Inv-loop μ-loop (λ c κs. tt)
-    (λ c. (omega arith, refl))
-    (λ c κs. tt)
-    (λ c. search needs)
-    (λ c. let m = more c in record { fits = omega arith })
+    (λ c. (omega arith, refl)) (λ c κs. tt) (λ c. search needs) (λ c. let m = more c in record { fits = omega arith })
     (λ c. let m = more c in omega arith)
     (λ c. record { fits = rw (c .before .before .loop .inv .1, c .byte-on .ensures) (in-word (byte c) (small c) (c .before .before .loop .i) (more c)) })
     (λ c. search needs) (λ c. search needs)

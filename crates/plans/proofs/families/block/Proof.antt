@@ -17,11 +17,9 @@ unfolding spreadOf
 block-spec =
     tie.close (tie.spec (λ c κs. tt) (λ c κs. tt)
     (λ c. rw (c .bytes .ensures) (bytes-some (c .before .before .before .before .args .insn .element .lane)))
-    (λ c. record { fits = omega (arith, few c) })
-    (λ c. omega (arith, few c))
+    (λ c. record { fits = omega (arith, few c) }) (λ c. omega (arith, few c))
     (λ c.
     let g = c .before .before .before .before in
     record { fits = omega (arith, blocks-few (g .args .vl) (c .before .block-bytes .result) (c .bytes .result) (g .pre .1)) })
-    (λ c κs. (c .before .before .before .before .pre .0, omega (arith, few c)))
-    (λ c κs. tt)
+    (λ c κs. (c .before .before .before .before .pre .0, omega (arith, few c))) (λ c κs. tt)
     (λ c. c .plan-with .ensures ∙ rw (c .before .start .ensures, c .before .before .bytes .ensures, c .before .before .before .block-bytes .ensures)))

@@ -25,6 +25,5 @@ unfolding spreadOf
 contiguous-spec =
     tie.close (tie.spec (λ c κs. tt) (λ c κs. tt)
     (λ c. record { fits = omega (arith, few c) })
-    (λ c κs. (c .before .before .before .before .pre .0, omega (arith, few c)))
-    (λ c κs. tt)
+    (λ c κs. (c .before .before .before .before .pre .0, omega (arith, few c))) (λ c κs. tt)
     (λ c. c .plan-with .ensures ∙ rw (c .before .start .ensures, c .before .before .bytes .ensures, c .before .before .before .lanes-in .ensures)))

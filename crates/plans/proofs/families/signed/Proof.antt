@@ -16,7 +16,5 @@ pub signed-spec : {M : Type 1} → statement M
 unfolding signed4
 signed-spec =
     tie.close (tie.spec (λ c. search needs)
-    (λ c. rw (toZ-pos w64 {n = c .before .args .field} (omega arith), lt-ltb _ 8 (c .if1 .taken)))
-    (λ c. search needs)
-    sub-result
+    (λ c. rw (toZ-pos w64 {n = c .before .args .field} (omega arith), lt-ltb _ 8 (c .if1 .taken))) (λ c. search needs) sub-result
     (λ c. toZ-ofZ (sub-result c) ∙ rw (toZ-pos w64 {n = c .before .args .field} (omega arith), le-ltb _ 8 (c .if1 .left))))

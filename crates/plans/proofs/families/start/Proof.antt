@@ -12,8 +12,7 @@ field c = rw (c .before .offset .given .1) at (c .before .before .before .before
 pub start-spec : {M : Type 1} → statement M
 start-spec =
     tie.close (tie.spec (λ c κs. tt) (λ c. c .match .keys1)
-    (λ c κs. field c)
-    (λ c. search needs)
+    (λ c κs. field c) (λ c. search needs)
     (λ c. rw (c .signed .ensures) (product-fits _ _ (field (c .before)) (c .before .before .before .before .before .before .pre .1)))
     (λ c κs. tt) (λ c. c .match .keys2) (λ c κs. tt) (λ c κs. tt) (λ c κs. tt)
     (λ c.

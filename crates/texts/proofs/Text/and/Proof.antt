@@ -28,8 +28,7 @@ module _ (c : tie.After-copy-arg) where
 
 pub and-spec : {M : Type 1} → statement M
 and-spec =
-    tie.close (tie.spec
-    (λ c. full _ _ (c .if1 .taken))
+    tie.close (tie.spec (λ c. full _ _ (c .if1 .taken))
     (λ c. search needs) (λ c κs. tt) (λ c. search needs) (λ c. copied c) (λ c. search needs) (λ c. search needs) (λ c. room c)
     (λ c κs. le-of-eq (sym (as-long (c .before))))
     (λ c. put-behind _ _ (c .before .before .before .before .least .ensures)

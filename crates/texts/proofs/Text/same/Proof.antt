@@ -14,8 +14,7 @@ pub same-spec : {M : Type 1} → statement M
 same-spec =
     tie.close (tie.spec (λ c κs. tt)
     (λ c. omega (arith, long (c .before .before .before), c .least .ensures))
-    (λ c. simp length-take (omega (arith, long (c .before .before .before .before), c .before .least .ensures)))
-    (λ c κs. tt)
+    (λ c. simp length-take (omega (arith, long (c .before .before .before .before), c .before .least .ensures))) (λ c κs. tt)
     (λ c.
     let g = c .before .before .before .before .before in
     let shown : take (c .before .before .least .result) (g .args .self .bytes) ≡ take (g .args .self .n) (g .args .self .bytes) =

@@ -10,14 +10,10 @@ use Rattle.words.proofs.Dtype.of.Tie as tie
 pub of-spec : {M : Type 1} → statement M
 of-spec =
     tie.close
-    (tie.spec
-    (λ c. sym (past (c .before .args .field) (omega arith)))
-    (λ c κs. search needs)
-    (λ c κs. search needs)
+    (tie.spec (λ c. sym (past (c .before .args .field) (omega arith)))
+    (λ c κs. search needs) (λ c κs. search needs)
     (λ c. let field = c .before .before .before .before .args .field in
     rw (dtype-rule field (omega arith), le-leb _ _ (c .before .before .if2 .taken), c .before .of .ensures, c .of2 .ensures))
-    (λ c κs. search needs)
-    (λ c. search needs)
-    (λ c κs. search needs)
+    (λ c κs. search needs) (λ c. search needs) (λ c κs. search needs)
     (λ c. let field = c .before .before .before .before .args .field in
     rw (dtype-rule field (omega arith), lt-leb _ _ (c .before .before .if2 .left), c .before .of3 .ensures, c .of4 .ensures)))
