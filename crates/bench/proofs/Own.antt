@@ -23,7 +23,7 @@ use Rattle.steps.specs.declared.Plan.{Plan}
 use Rattle.steps.specs.declared.Rule.{Rule}
 use Rattle.steps.specs.declared.Rule.the-variants.{Always, LaneBit, ElementBit}
 use Rattle.steps.proofs.Walks.{many}
-use Rattle.plans.specs.Inside.{shapedBy, Shaped}
+use Rattle.plans.specs.Inside.{ShapedAs, Shaped}
 use Rattle.plans.proofs.Shapes.{factor-some}
 use Rattle.bench.specs.Inside.Quick.{LanesIn, LanesOut, isAlways, ownOf, strideOf, decidingBits, countOf, ownIn, FillIn, OwnOut}
 use Rattle.bench.proofs.Small.{slot}
@@ -132,7 +132,7 @@ module _ (p : Plan) (pred : List ℕ) (some : 0 < p .elements) where
   pub lanes-from-stretch : {n : ℕ} → Shaped p n → LanesFromStretch p pred (ownIn p * (8 / bytesOf (p .lane)))
   lanes-from-stretch s = go (p .rule) refl (s .shape)
     where
-      go : (r : Rule) → p .rule ≡ r → shapedBy r p → LanesFromStretch p pred (ownOf r (p .elements) (p .filled) w * per)
+      go : (r : Rule) → p .rule ≡ r → ShapedAs r p → LanesFromStretch p pred (ownOf r (p .elements) (p .filled) w * per)
       go Always rule h = always-told (h .0) rule (h .1)
       go LaneBit rule h = rw (chunk-lanes (p .lane) (p .filled) (h .2)) (lane-told (h .0) rule (h .1))
       go ElementBit rule h = rw (chunk-lanes (p .lane) (p .elements) (h .1)) (element-told rule (h .0))
@@ -191,7 +191,7 @@ first-chunk {ys = ys} xs even long fits c =
     }
 
 module _ {p : Plan} {pred s : List ℕ} {n : ℕ} (f : FillIn p pred s n) (rule : p .rule ≡ Always) where
-  abbrev shape : shapedBy Always p
+  abbrev shape : ShapedAs Always p
   shape = rw rule at (f .fit .shaped .shape)
 
   pub always-room : 8 ≤ n

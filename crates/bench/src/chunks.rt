@@ -1,5 +1,5 @@
-// Lanes that are filled from a stretch of memory, chunk by chunk: a chunk is eight bytes of a register, over which one byte decides, of the
-// predicate, or with every bit 1 for LD1R, which has none. The quick road fetches bytes of memory in `whole` alone, which `lane_from`
+// Lanes that are filled from a stretch of memory, chunk by chunk. A chunk is eight bytes of a register; one byte of the predicate says which of
+// its lanes are filled, and 255 stands for it in LD1R, which has no predicate. The quick road fetches bytes of memory in `whole` alone, which `lane_from`
 // alone calls, for a lane that is on: no byte of an inactive lane is fetched.
 use crate::actives;
 use crate::fills;
@@ -59,8 +59,8 @@ pub(crate) fn one_if(on: bool) -> u64
     if on { 1 } else { 0 }
 }
 
-// Fills a chunk from the elements that lie so many strides on from a place, by the byte that decides over it, and counts the lanes that
-// are on. Where no bit of that byte is 1, it is zero at once.
+// Fills a chunk: lane l takes the element at from + l × stride, if its bit of the byte is 1, and else is zero. Answers how many lanes are on.
+// Where no bit of the byte is 1, the chunk is zero at once.
 fn chunk(
     dst: &mut [u8],
     stretch: &[u8],
@@ -130,8 +130,8 @@ fn chunks(
     lanes_on
 }
 
-// The same, with a call for each row of sizes, so that in each the sizes and the sign are constants: sign, lane and memory size in bytes
-// are a digit each.
+// The same, with a call for each row of sizes, so that in each the sizes and the sign are constants. What is matched has a hexadecimal
+// digit each for the sign, the lane's bytes and the bytes in memory.
 pub(crate) fn sized(
     dst: &mut [u8],
     stretch: &[u8],

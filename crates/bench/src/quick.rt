@@ -10,7 +10,7 @@ ghost use lib.ListN.{length};
 ghost use Rattle.ground.specs.Sizes.{bytesOf};
 ghost use Rattle.bench.specs.Inside.Quick.{Copied, isAlways, ownOf, strideOf, countOf, ownIn, OwnOut, FillIn, FillOut};
 
-// Repeats the first bytes up to an end.
+// Repeats the first `block` bytes of a register up to byte `end`.
 fn copies(dst: &mut [u8], block: usize, end: usize)
     requires { ⌜ (0 < block) × (end ≤ length (now dst)) ⌝ }
     ensures { λ _. ⌜ Copied (now (dst .entry)) (now (dst .exit)) block end ⌝ }

@@ -45,7 +45,7 @@ fn written(
     }
 }
 
-// One by one: a survey that only reads, and only where that is clear the destination.
+// One by one: first a survey that only reads; the destination is filled only if it met no bad byte.
 fn one_by_one(
     dst: &mut [u8],
     map: Map,

@@ -16,7 +16,7 @@ use Rattle.cases.specs.Outcomes.{outcomeLength}
 use Rattle.cases.specs.declared.heads.Case.{Case}
 use Rattle.cases.specs.declared.heads.Refusal.{Refusal}
 use Rattle.cases.specs.declared.heads.Opened.{Opened}
-use Rattle.cases.specs.declared.heads.Opened.the-variants.{Holds, Broken}
+use Rattle.cases.specs.declared.heads.Opened.the-variants.{Begins, Broken}
 
 -- no part is over its limit
 pub record Bounds (c : Case) : Type 0 where
@@ -29,14 +29,14 @@ pub record Bounds (c : Case) : Type 0 where
   pub ramRights : c .«ram_rights» ≤ 64
 
 -- such a case is taken
-pub all-short : {c : Case} → Bounds c → Holds c (caseBytes c) ≡ limited c
+pub all-short : {c : Case} → Bounds c → Begins c (caseBytes c) ≡ limited c
 unfolding limited
 all-short b =
     rw (le-ltb _ _ (b .vectors), le-ltb _ _ (b .predicates), le-ltb _ _ (b .scalars), le-ltb _ _ (b .flash))
     (rw (le-ltb _ _ (b .flashRights), le-ltb _ _ (b .ram), le-ltb _ _ (b .ramRights)))
 
 -- a fact of every refusal and of every case within the limits holds of whatever bytes open with
-module _ (P : Opened → Type 0) (no : (why : Refusal) → P (Broken why)) (yes : (c : Case) → Bounds c → P (Holds c (caseBytes c))) where
+module _ (P : Opened → Type 0) (no : (why : Refusal) → P (Broken why)) (yes : (c : Case) → Bounds c → P (Begins c (caseBytes c))) where
   limits : (c : Case) → P (limited c)
   unfolding limited
   limits c =
@@ -73,7 +73,7 @@ within-limits = opened WithinLimits (λ why. tt) (λ c b. (refl, b .vectors, b .
 -- the longest case and the longest outcome
 abbrev pub Longest : Opened → Type 0
 Longest (Broken why) = Unit {0}
-Longest (Holds c n) = (n ≤ 333024) × (outcomeLength c ≤ 66585)
+Longest (Begins c n) = (n ≤ 333024) × (outcomeLength c ≤ 66585)
 
 pub longest-case : (s : List ℕ) → Longest (openedOf s)
 longest-case = opened Longest (λ why. tt) (λ c b. (omega arith, omega arith))

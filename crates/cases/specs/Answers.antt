@@ -12,7 +12,7 @@ use Rattle.cases.specs.Outcomes.{outcomeBytes, outcomeLength}
 use Rattle.cases.specs.declared.heads.Case.{Case}
 use Rattle.cases.specs.declared.heads.Refusal.the-variants.{Ends, Room}
 use Rattle.cases.specs.declared.heads.Opened.{Opened}
-use Rattle.cases.specs.declared.heads.Opened.the-variants.{Holds, Broken}
+use Rattle.cases.specs.declared.heads.Opened.the-variants.{Begins, Broken}
 use Rattle.cases.specs.declared.Answered.{Answered}
 use Rattle.cases.specs.declared.Answered.the-variants.{Written, Not}
 
@@ -33,7 +33,7 @@ onCase s out c =
 
 abbrev pub onOpened : List ℕ → List ℕ → Opened → After
 onOpened s out (Broken why) = record { answer = Not why; out = out }
-onOpened s out (Holds c n) = onCase s out c
+onOpened s out (Begins c n) = onCase s out c
 
 unfoldable pub afterCase : List ℕ → List ℕ → After
 afterCase s out = onOpened s out (openedOf s)

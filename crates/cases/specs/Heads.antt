@@ -11,7 +11,7 @@ use Rattle.cases.specs.declared.heads.Case.{Case}
 use Rattle.cases.specs.declared.heads.Part.the-variants as Part
 use Rattle.cases.specs.declared.heads.Refusal.the-variants.{Ends, Magic, Flags, Level, Long}
 use Rattle.cases.specs.declared.heads.Opened.{Opened}
-use Rattle.cases.specs.declared.heads.Opened.the-variants.{Holds, Broken}
+use Rattle.cases.specs.declared.heads.Opened.the-variants.{Begins, Broken}
 
 -- bit k of the flags: "bit 0 SIMD on, bit 1 SVE on, bit 2 F64MM present"
 abbrev pub flag : List ℕ → ℕ → Bool
@@ -45,7 +45,7 @@ limited c =
     ∷ (ltb 131072 (c .ram) ⇒ Broken (Long Part.Ram))
     ∷ (ltb 64 (c .«ram_rights») ⇒ Broken (Long Part.RamRights))
     ∷ [])
-    (Holds c (caseBytes c))
+    (Begins c (caseBytes c))
 
 -- 4B 4B 4A 31, "KKJ1"
 abbrev pub magic : ℕ

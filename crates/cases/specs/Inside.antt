@@ -4,9 +4,9 @@ use Prim.Native.Nat.{_≤_}
 use mathlib.Core.Path.{_≡_}
 use Rattle.cases.specs.Parts.{caseBytes}
 use Rattle.cases.specs.declared.heads.Opened.{Opened}
-use Rattle.cases.specs.declared.heads.Opened.the-variants.{Holds, Broken}
+use Rattle.cases.specs.declared.heads.Opened.the-variants.{Begins, Broken}
 
 -- its length, and the limits of its vectors and scalars, so that no sum of theirs wraps
 abbrev pub WithinLimits : Opened → Type 0
 WithinLimits (Broken why) = Unit {0}
-WithinLimits (Holds c n) = (n ≡ caseBytes c) × (c .vectors ≤ 65536) × (c .scalars ≤ 128)
+WithinLimits (Begins c n) = (n ≡ caseBytes c) × (c .vectors ≤ 65536) × (c .scalars ≤ 128)

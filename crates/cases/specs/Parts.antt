@@ -8,8 +8,8 @@ use Rattle.bench.specs.Lends.{lentOf, benchOf}
 use Rattle.cases.specs.declared.heads.Case.{Case}
 
 -- n bytes from a place on
-abbrev pub bytesFrom : List ℕ → ℕ → ℕ → List ℕ
-bytesFrom s at n = take n (drop at s)
+abbrev pub partAt : List ℕ → ℕ → ℕ → List ℕ
+partAt s at n = take n (drop at s)
 
 -- z, p, x, flash, flash_rights, ram, ram_rights: each begins where the one before it ends
 module _ (c : Case) where
@@ -42,11 +42,11 @@ module _ (c : Case) where
 module _ (s : List ℕ) (c : Case) where
   unfoldable pub lentIn : Lent
   lentIn =
-      lentOf (c .settings) (bytesFrom s (predicatesAt c) (c .predicates)) (c .map) (bytesFrom s (flashAt c) (c .flash))
-      (bytesFrom s (flashRightsAt c) (c .«flash_rights»)) (bytesFrom s (ramRightsAt c) (c .«ram_rights»))
+      lentOf (c .settings) (partAt s (predicatesAt c) (c .predicates)) (c .map) (partAt s (flashAt c) (c .flash))
+      (partAt s (flashRightsAt c) (c .«flash_rights»)) (partAt s (ramRightsAt c) (c .«ram_rights»))
 
   abbrev pub scalarsIn : List ℕ
   scalarsIn = listed (λ i. bytesAt s (scalarsAt c + 8 * i) 8) 0 (c .scalars)
 
   unfoldable pub benchIn : Bench
-  benchIn = benchOf (bytesFrom s (vectorsAt c) (c .vectors)) scalarsIn (bytesFrom s (ramAt c) (c .ram))
+  benchIn = benchOf (partAt s (vectorsAt c) (c .vectors)) scalarsIn (partAt s (ramAt c) (c .ram))

@@ -43,7 +43,7 @@ pub enum Refusal {
 
 // What bytes open with: a case of so many bytes, its head among them, or no case.
 pub enum Opened {
-    Holds(Case, usize),
+    Begins(Case, usize),
     Broken(Refusal),
 }
 
@@ -100,7 +100,7 @@ fn within_limits(case: Case) -> Opened
         return Opened::Broken(Refusal::Long(Part::RamRights));
     }
     let files = 96 + case.vectors + case.predicates + 8 * case.scalars;
-    Opened::Holds(
+    Opened::Begins(
         case,
         files + case.flash + case.flash_rights + case.ram + case.ram_rights,
     )

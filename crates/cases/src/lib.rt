@@ -9,7 +9,7 @@ pub use heads::Refusal;
 pub use heads::head;
 ghost use mathlib.Core.Path.{_≡_};
 ghost use Rattle.cases.specs.Inside.{WithinLimits};
-ghost use Rattle.cases.specs.declared.heads.Opened.the-variants.{Holds};
+ghost use Rattle.cases.specs.declared.heads.Opened.the-variants.{Begins};
 ghost use Rattle.cases.specs.Answers.{After, onCase, AnswerPromise};
 
 // How a case was answered: so many bytes taken, and so many of its outcome written.
@@ -20,7 +20,7 @@ pub enum Answered {
 
 // Answers a case whose head is read, if its parts are all there and its outcome has room.
 fn answered_case(s: &[u8], out: &mut [u8], case: Case, whole: usize) -> Answered
-    requires { ⌜ WithinLimits (Holds case whole) ⌝ }
+    requires { ⌜ WithinLimits (Begins case whole) ⌝ }
     ensures { λ r. ⌜ _≡_ {A = After} (record { answer = r; out = now (out .exit) }) (onCase (now (s .entry)) (now (out .entry)) case) ⌝ }
 {
     let given = 25 + case.vectors + 8 * case.scalars;
@@ -40,6 +40,6 @@ pub fn answer(s: &[u8], out: &mut [u8]) -> Answered
 {
     match head(s) {
         Opened::Broken(why) => Answered::Not(why),
-        Opened::Holds(case, whole) => answered_case(s, out, case, whole),
+        Opened::Begins(case, whole) => answered_case(s, out, case, whole),
     }
 }

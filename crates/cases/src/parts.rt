@@ -10,7 +10,7 @@ ghost use Rattle.ground.specs.Lists.{listed, bytesAt};
 ghost use Rattle.steps.specs.Answers.{reportOf};
 ghost use Rattle.steps.specs.Step.{StepPromise};
 ghost use Rattle.bench.specs.Lends.{benchOf};
-ghost use Rattle.cases.specs.Parts.{bytesFrom, ramAt, caseBytes, lentIn, benchIn};
+ghost use Rattle.cases.specs.Parts.{partAt, ramAt, caseBytes, lentIn, benchIn};
 ghost use Rattle.cases.specs.Outcomes.{eights, reportBytes, outcomeLength};
 ghost use Rattle.cases.specs.Answers.{outcomeIn};
 
@@ -47,7 +47,7 @@ fn stepped(z: &mut [u8], x: &mut [u64], s: &[u8], case: Case) -> StepResult
     requires { ⌜ (length (now z) ≡ case .vectors) × (length (now x) ≡ case .scalars) × (caseBytes case ≤ length (now s)) ⌝ }
     ensures { λ r. ⌜ (let l = lentIn (now (s .entry)) case in
         StepPromise l (case .word) (benchIn (now (s .entry)) case) r l
-        (benchOf (now (z .exit)) (now (x .exit)) (bytesFrom (now (s .entry)) (ramAt case) (case .ram)))) ⌝ }
+        (benchOf (now (z .exit)) (now (x .exit)) (partAt (now (s .entry)) (ramAt case) (case .ram)))) ⌝ }
 {
     let predicates_at = 96 + case.vectors;
     let scalars_at = predicates_at + case.predicates;

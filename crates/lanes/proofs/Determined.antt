@@ -11,7 +11,7 @@ use lib.ListN.{length}
 use Rattle.ground.specs.Lists.{little}
 use Rattle.ground.proofs.Laws.{only-one, true-or-false, never, little-self, little-cong, pow-bytes}
 use Rattle.lanes.specs.Lanes.{laneThere, floatCase, bitsOf}
-use Rattle.lanes.specs.Said.{There, laneByte, AsFloat, AsAsked, OfFormat, Answers}
+use Rattle.lanes.specs.Said.{There, laneByte, AsFloat, AsAsked, OfFormat, LaneAnswer}
 use Rattle.lanes.specs.declared.Kind.{Kind}
 use Rattle.lanes.specs.declared.Kind.the-variants as As
 use Rattle.lanes.specs.declared.Shown.{Shown}
@@ -47,14 +47,14 @@ module _ (r s : Shown) (p : OfFormat r) (q : OfFormat s) (same : bitsOf r ≡ bi
   alike As.Double a b = alike-float binary64 a b
 
 module _ (vl : ℕ) (z : List ℕ) (register : ℕ) (kind : Kind) (width lane : ℕ) where
-  bits-of : (r : Shown) → Answers vl z register kind width lane r → There vl z register kind width lane
+  bits-of : (r : Shown) → LaneAnswer vl z register kind width lane r → There vl z register kind width lane
       → bitsOf r ≡ little (laneByte vl z register width lane) 0 (width / 8)
   bits-of r a t =
       let room : bitsOf r < 256 ^ (width / 8) = rw (pow-bytes, bytes t .whole) (a .below t) in
       sym (little-self (bitsOf r) (width / 8) room)
       ∙ little-cong (λ j. bitsOf r / 256 ^ j % 256) (laneByte vl z register width lane) 0 0 (width / 8) (λ j l. rw zero-add (a .bytes t j l))
 
-  pub determined : (r s : Shown) → OfFormat r → OfFormat s → Answers vl z register kind width lane r → Answers vl z register kind width lane s → r ≡ s
+  pub determined : (r s : Shown) → OfFormat r → OfFormat s → LaneAnswer vl z register kind width lane r → LaneAnswer vl z register kind width lane s → r ≡ s
   determined r s p q a b =
       ⊎-elim
       (λ h. let t = there-exactly vl z register kind width lane .0 h in alike r s p q (only-one (bits-of r a t) (bits-of s b t)) kind (a .asked t) (b .asked t))

@@ -12,7 +12,7 @@ use lib.ListN.{length, getD}
 use Rattle.ground.specs.Lists.{little}
 use Rattle.ground.proofs.Laws.{only-one, off, if-cases, little-digit}
 use Rattle.lanes.specs.Lanes.{laneThere, floatCase, floatOf, shownAs, shownOf, bitsOf}
-use Rattle.lanes.specs.Said.{WidthFor, There, laneByte, AsFloat, AsAsked, OfFormat, Answers}
+use Rattle.lanes.specs.Said.{WidthFor, There, laneByte, AsFloat, AsAsked, OfFormat, LaneAnswer}
 use Rattle.lanes.specs.declared.Kind.{Kind}
 use Rattle.lanes.specs.declared.Kind.the-variants as As
 use Rattle.lanes.specs.declared.Shown.{Shown}
@@ -113,5 +113,5 @@ module _ (vl : ℕ) (z : List ℕ) (register : ℕ) (kind : Kind) (width lane : 
     unfolding shownOf
     of-format = rw p (if-cases OfFormat (laneThere vl (length z) register kind width lane) (shownAs kind bits) NoLane (λ _. told-format kind bits) (λ _. tt))
 
-    pub window-answers : ((k : ℕ) → getD z k 0 < 256) → Answers vl z register kind width lane r
+    pub window-answers : ((k : ℕ) → getD z k 0 < 256) → LaneAnswer vl z register kind width lane r
     window-answers small = record { none = none-exactly .1; asked = as-asked small; bytes = bytes-exactly small; below = bits-below small }

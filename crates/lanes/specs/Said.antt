@@ -49,7 +49,7 @@ OfFormat (Whole n) = Unit {0}
 OfFormat NoLane = Unit {0}
 
 -- the answer to "What does a lane hold?"
-pub record Answers (vl : ℕ) (z : List ℕ) (register : ℕ) (kind : Kind) (width lane : ℕ) (r : Shown) : Type 0 where
+pub record LaneAnswer (vl : ℕ) (z : List ℕ) (register : ℕ) (kind : Kind) (width lane : ℕ) (r : Shown) : Type 0 where
   -- "Wrong ..: no such lane"
   pub none : (There vl z register kind width lane → ⊥) → r ≡ NoLane
   pub asked : There vl z register kind width lane → AsAsked kind r

@@ -16,7 +16,7 @@ use Rattle.memory.specs.declared.Cell.the-variants.{Byte, Bad}
 abbrev pub readRight : List ℕ → ℕ → Bool
 readRight rights k = eqb (getD rights (k / pageBytes) 0 % 2) 1
 
--- what a load may do at byte k of an area
+-- what a load finds at byte k of an area: the byte, or that its page has no read right
 unfoldable pub judged : List ℕ → List ℕ → ℕ → Cell
 judged bytes rights k = if readRight rights k then Byte (getD bytes k 0) else Bad Denied
 

@@ -168,7 +168,7 @@ fn locate(map: Map, nf: usize, nr: usize, a: Address) -> Place
     Place::Nowhere
 }
 
-// What a load may do at byte k of an area: where no rights byte is lent for the page, there is no right.
+// What a load finds at byte k of an area: the byte, or that its page has no read right. Where no rights byte is lent for the page, there is none.
 fn judge(bytes: &[u8], rights: &[u8], k: usize) -> Cell
     requires { ⌜ k < length (now bytes) ⌝ }
     ensures { λ r. ⌜ r ≡ judged (now (bytes .entry)) (now (rights .entry)) k ⌝ }

@@ -9,11 +9,11 @@ use Rattle.steps.specs.declared.Plan.{Plan}
 use Rattle.steps.specs.declared.Rule.{Rule}
 use Rattle.steps.specs.declared.Rule.the-variants.{Always, LaneBit, ElementBit}
 
-abbrev pub shapedBy : Rule → Plan → Type 0
-shapedBy Always p = (p .elements ≡ 1) × (8 ≤ p .filled * bytesOf (p .lane)) × (p .lane ≡ p .size) × (p .signed ≡ false)
-shapedBy LaneBit p = (p .elements ≡ 1) × (0 < p .filled) × (p .filled * bytesOf (p .lane) % 8 ≡ 0)
-shapedBy ElementBit p = (p .elements ≤ p .filled) × (p .elements * bytesOf (p .lane) % 8 ≡ 0)
+abbrev pub ShapedAs : Rule → Plan → Type 0
+ShapedAs Always p = (p .elements ≡ 1) × (8 ≤ p .filled * bytesOf (p .lane)) × (p .lane ≡ p .size) × (p .signed ≡ false)
+ShapedAs LaneBit p = (p .elements ≡ 1) × (0 < p .filled) × (p .filled * bytesOf (p .lane) % 8 ≡ 0)
+ShapedAs ElementBit p = (p .elements ≤ p .filled) × (p .elements * bytesOf (p .lane) % 8 ≡ 0)
 
 pub record Shaped (p : Plan) (n : ℕ) : Type 0 where
   pub room : p .filled * bytesOf (p .lane) ≤ n
-  pub shape : shapedBy (p .rule) p
+  pub shape : ShapedAs (p .rule) p

@@ -11,7 +11,7 @@ pub enum Tell {
 }
 
 // What a row sets up: the word, the vector length, P0's first four bytes as a number, X0, how many bytes of each area are lent, and
-// the rights of flash's page 1. Then whether the row asks if a set-up is taken, and what it speaks of.
+// the rights of flash's page 1. Then whether the row asks if a set-up is accepted, and what it speaks of.
 pub struct Row {
     pub word: u32,
     pub vl: u32,

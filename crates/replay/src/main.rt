@@ -70,7 +70,7 @@ fn one_case(number: u64, stream: &mut [u8], out: &mut [u8]) -> bool {
             telling::refused(&CASE, number, why);
             false
         }
-        Opened::Holds(_, whole) => {
+        Opened::Begins(_, whole) => {
             let rest = read_part(stream, 96, whole);
             answered(number, stream, std::num::wrapping_add_usize(96, rest), out)
         }

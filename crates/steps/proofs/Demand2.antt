@@ -20,18 +20,18 @@ use Rattle.steps.specs.Outcomes.{Outcome}
 use Rattle.steps.specs.Step.{stepOf, StepPromise}
 use Rattle.steps.specs.Said.{laneBytes, N, K, copies, LaneActive}
 use Rattle.steps.specs.Demand1.{Ready, AllReadable}
-use Rattle.steps.specs.Demand2.{TakesAs, laneIn, Leaves}
+use Rattle.steps.specs.Demand2.{TakesAs, laneIn, Leaves, Done, Octets}
 use Rattle.steps.specs.declared.StepResult.{StepResult}
 use Rattle.steps.proofs.Places.{signed-field, at-first, on-from, by-immediate, by-register}
 use Rattle.steps.proofs.Gives.{runs, ran-only}
-use Rattle.steps.proofs.Determined.{Octets, determined}
+use Rattle.steps.proofs.Determined.{determined}
 use Rattle.steps.proofs.Keeps.{lent-kept}
 use Rattle.steps.proofs.Runs.{ran-leaves, ran-bench, ran-count}
 
 -- Where element e lies, family by family, in document 01's own formulas: modulo 2^64, and imm4 a whole number from -8 to 7. `Given` and
 -- `Leaves` name each byte by these formulas (byteAt of Said); the laws say that the plan reads there.
-pub imm4 : (v : ℕ) → v < 16 → signed4 v +ℤ pos 8 ≡ pos ((v + 8) % 16)
-imm4 v h = signed-field v h
+pub imm4-signed : (v : ℕ) → v < 16 → signed4 v +ℤ pos 8 ≡ pos ((v + 8) % 16)
+imm4-signed v h = signed-field v h
 
 module _ (l : Lent) (x : List ℕ) (i : Insn) where
   -- where the plan of the instruction has element e, and where it would with another shape
@@ -90,9 +90,6 @@ pub demand-2 : (l : Lent) (w : ℕ) (b : Bench) (i : Insn) → Ready l w b i →
 demand-2 l w b i r a = subst₂ (Leaves l b i) (sym (lent-kept l w b)) (sym (ran-bench l w b i r a)) (ran-leaves l w b i r a)
 
 -- The same of any outcome that meets the promise and ran.
-abbrev pub Done : Lent → ℕ → Bench → Lent → Bench → Type 0
-Done l w b l₁ b₁ = (i : Insn) × Ready l w b i × AllReadable l b i × Leaves l b i l₁ b₁
-
 pub demand-2-promise : (l : Lent) (w : ℕ) (b : Bench) (r : StepResult) (l₁ : Lent) (b₁ : Bench) → StepPromise l w b r l₁ b₁ → numberOf (r .answer) ≡ 0
     → Done l w b l₁ b₁
 demand-2-promise l w b r l₁ b₁ p z =

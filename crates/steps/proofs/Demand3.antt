@@ -17,12 +17,13 @@ use Rattle.memory.specs.Troubles.{troubleOf}
 use Rattle.memory.specs.declared.Reading.{Reading}
 use Rattle.steps.specs.Step.{StepPromise}
 use Rattle.steps.specs.Said.{Accepted}
+use Rattle.steps.specs.Demand2.{Done}
 use Rattle.steps.specs.Demand3.{Same, SameRights, SameBytes}
 use Rattle.steps.specs.declared.StepResult.{StepResult}
 use Rattle.steps.proofs.Depends.{same-survey, same-outcome}
 use Rattle.steps.proofs.Agrees.{same-report, same-after}
 use Rattle.steps.proofs.Unique.{result-unique}
-use Rattle.steps.proofs.Demand2.{Done, demand-2-promise}
+use Rattle.steps.proofs.Demand2.{demand-2-promise}
 
 -- What a load tells depends only on which of the elements asked for fault, where and how, and never on a value;
 pub demand-3-faults : (a b : ℕ → Reading) (p : Plan) (pred : List ℕ)

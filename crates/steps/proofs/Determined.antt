@@ -15,9 +15,7 @@ use Rattle.ground.specs.Lists.{little}
 use Rattle.ground.proofs.Sizes.{bytes-some, register-room, register-lanes}
 use Rattle.steps.specs.Insns.{Insn}
 use Rattle.memory.specs.Addresses.{wrap}
-use Rattle.memory.specs.Areas.{Area, Areas}
 use Rattle.memory.specs.Bytes.{lookOf}
-use Rattle.memory.specs.Said.{OneOf}
 use Rattle.memory.specs.Troubles.{byteFound}
 use Rattle.memory.proofs.Looks.{right-byte}
 use Rattle.steps.specs.Benches.{Lent, Bench, areasIn}
@@ -26,15 +24,11 @@ use Rattle.steps.specs.Plans.{planOf}
 use Rattle.steps.specs.Lanes.{governingBytes, laneTakes}
 use Rattle.steps.specs.Said.{m, laneBytes, N, Active, byteAt}
 use Rattle.steps.specs.Demand1.{Ready, AllReadable}
-use Rattle.steps.specs.Demand2.{Takes, laneIn, Extends, Contains, ElementValue, WrittenBack, Leaves}
+use Rattle.steps.specs.Demand2.{Takes, laneIn, Extends, Contains, ElementValue, WrittenBack, Leaves, Octets}
 use Rattle.steps.specs.declared.Plan.{Plan}
 use Rattle.steps.proofs.Fields.{adds-back, back-adds}
 use Rattle.steps.proofs.Actives.{takes-there, there-takes, takes-active}
 use Rattle.steps.proofs.Runs.{in-range-of}
-
--- every number of the areas is a byte, as in every lent slice
-abbrev pub Octets : Areas → Type 0
-Octets s = (r : Area) → OneOf s r → (j : ℕ) → getD (r .bytes) j 0 < 256
 
 -- an extended number is one number
 extended-once : (signed : Bool) (bits lane v x y : ℕ) → Extends signed bits lane v x → Extends signed bits lane v y → x ≡ y

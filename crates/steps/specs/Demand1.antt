@@ -10,8 +10,8 @@ use Rattle.steps.specs.Answers.{Report, reportWith}
 use Rattle.steps.specs.Terms.{scalar}
 use Rattle.steps.specs.Said.{Accepted, m, Active, Checks, byteAt, CanRead, Missing, Forbidden}
 
--- byte k of active element e is the first that is bad so: every byte of the active elements before it, and every byte of e
--- before it, can be read
+-- byte k of active element e is bad, missing or forbidden as `Bad` says, and is the first such byte: all bytes of the active elements below e,
+-- and those of e below k, can be read
 pub record FirstBad (Bad : Areas → ℕ → Type 0) (l : Lent) (b : Bench) (i : Insn) (e k : ℕ) : Type 0 where
   pub active : Active l i e
   pub within : k < m i
@@ -35,7 +35,7 @@ WideAs (Block wide offset) = wide ≡ true
 abbrev pub Wide : Insn → Type 0
 Wide i = WideAs (i .shape)
 
--- "LD1R with SIMD off; any other with SVE off" earns 4
+-- the switch that the load needs is on: SIMD for LD1R, SVE for any other; where it is off, the answer is 4
 abbrev pub OnAs : Shape → Lent → Type 0
 OnAs (Replicate q back) l = l .settings .simd ≡ true
 OnAs (ByElement imm6) l = l .settings .sve ≡ true

@@ -11,6 +11,7 @@ use Rattle.memory.specs.Areas.{Area, Areas}
 use Rattle.memory.specs.Said.{Holds, OneOf}
 use Rattle.steps.specs.Benches.{Lent, Bench, areasIn}
 use Rattle.steps.specs.Terms.{scalar}
+use Rattle.steps.specs.Demand1.{Ready, AllReadable}
 use Rattle.steps.specs.Said.{m, laneBytes, N, K, copies, LaneActive, byteAt}
 
 -- lane k of the destination takes element e: in a block load element k mod K, where that one of the block's own lanes is active
@@ -73,3 +74,11 @@ pub record Leaves (l : Lent) (b : Bench) (i : Insn) (l′ : Lent) (b′ : Bench)
   pub scalars : length (b′ .scalars) ≡ length (b .scalars)
   pub ram : b′ .ram ≡ b .ram
   pub lent : l′ ≡ l
+
+-- .. of some load that the word is, which could run
+abbrev pub Done : Lent → ℕ → Bench → Lent → Bench → Type 0
+Done l w b l′ b′ = (i : Insn) × Ready l w b i × AllReadable l b i × Leaves l b i l′ b′
+
+-- every number of the areas is a byte, as in every lent slice
+abbrev pub Octets : Areas → Type 0
+Octets a = (r : Area) → OneOf a r → (j : ℕ) → getD (r .bytes) j 0 < 256

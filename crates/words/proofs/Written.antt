@@ -8,7 +8,7 @@ use Rattle.ground.proofs.Laws.{and-left, and-right, _&_, first-each}
 use Rattle.ground.specs.Pieces.{widths}
 use Rattle.ground.proofs.Pieces.{Placed, placed-fit, relaid, halves}
 use Rattle.words.specs.Families.{families, choices, readOf}
-use Rattle.words.specs.Layouts.{Family, layout, Written}
+use Rattle.words.specs.Layouts.{Family, layout, LaidOut}
 use Rattle.words.specs.Layouts.Family.{ld1r-keep, ld1r-post, ld1r-element, ld1-immediate, ld1-scalar, block-immediate, block-scalar}
 use Rattle.words.specs.Insns.{Decoded, Outside}
 
@@ -17,12 +17,12 @@ ruleset met = (eqb-true, and-left, and-right)
 
 module _ (w : ℕ) (h : w < 2 ^ 32) where
   abbrev Found : Decoded → Type 0
-  Found d = (d ≡ Outside → ⊥) → Written w
+  Found d = (d ≡ Outside → ⊥) → LaidOut w
 
   row : (f : Family) {d : Decoded} → w < 2 ^ widths (layout f) → Placed w (layout f) → Found d
   row f l q _ = (f, placed-fit (layout f) w q, relaid (layout f) w l q)
 
-  pub written-out : (readOf w ≡ Outside → ⊥) → Written w
+  pub written-out : (readOf w ≡ Outside → ⊥) → LaidOut w
   unfolding readOf families
   written-out =
       first-each Found (choices families w) Outside

@@ -65,5 +65,5 @@ abbrev pub meansOf : Family → Decoded
 meansOf f = if undefinedIn f then Undefined else Is (insnOf f)
 
 -- a word is laid out as a row is, of numbers that fit
-abbrev pub Written : ℕ → Type 0
-Written w = (f : Family) × FitWidths (layout f) × (w ≡ word (layout f))
+abbrev pub LaidOut : ℕ → Type 0
+LaidOut w = (f : Family) × FitWidths (layout f) × (w ≡ word (layout f))

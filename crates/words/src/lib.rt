@@ -1,5 +1,5 @@
 // Which word is which load: the family table of the scope of work.
-// A field word<hi:lo> is written word / 2^lo % 2^(hi - lo + 1), the lowest too, as its definition is.
+// A field word<hi:lo> is written word / 2^lo % 2^(hi - lo + 1), also where lo is 0, so that code and definition read alike.
 // 2^lo is written in hexadecimal, with its bit at its place in the word.
 use ground::Size;
 ghost use mathlib.Core.Path.{_≡_};
@@ -58,8 +58,8 @@ pub enum Decoded {
 }
 
 impl Dtype {
-    // The row that a field of four bits names, by the table's own rule: its halves are the two sizes, and where they fall, both are
-    // turned round and the sign is extended. A field has no other number; a larger one is read as 15.
+    // The row that a field of four bits names, by the table's own rule: the upper two bits name the memory size and the lower two the lane
+    // size; where the upper ones are more, the sizes are 3 - upper and 3 - lower, and the sign is extended. A field over 15 is read as 15.
     pub fn of(field: u32) -> Dtype
         ensures { λ r. ⌜ r ≡ dtypeOf field ⌝ }
     {

@@ -12,7 +12,7 @@ use Rattle.steps.specs.Answers.{reportOf}
 use Rattle.steps.specs.Step.{StepPromise}
 use Rattle.steps.specs.declared.StepResult.{StepResult}
 use Rattle.bench.specs.Lends.{benchOf}
-use Rattle.cases.specs.Parts.{bytesFrom, ramAt, lentIn, benchIn}
+use Rattle.cases.specs.Parts.{partAt, ramAt, lentIn, benchIn}
 use Rattle.cases.specs.Outcomes.{eights, reportBytes, outcomeBytes, outcomeLength}
 use Rattle.cases.specs.Answers.{outcomeIn}
 use Rattle.cases.specs.declared.heads.Case.{Case}
@@ -38,7 +38,7 @@ layers out z xs ys n m e = back-in _ xs ys (25 + n) m e ∙ ap (λ (l : List ℕ
 
 -- the outcome: the report, and behind it what the step left
 as-outcome : (s : List ℕ) (c : Case) (out : List ℕ) (r : StepResult) {z x : List ℕ}
-    → (let l = lentIn s c in StepPromise l (c .word) (benchIn s c) r l (benchOf z x (bytesFrom s (ramAt c) (c .ram))))
+    → (let l = lentIn s c in StepPromise l (c .word) (benchIn s c) r l (benchOf z x (partAt s (ramAt c) (c .ram))))
     → reportBytes (reportOf r) ++ ((z ++ eights x) ++ drop (outcomeLength c) out) ≡ outcomeIn s c out
 unfolding outcomeIn outcomeBytes
 as-outcome s c out r {z} {x} h = rw (← h) (sym (append-assoc (reportBytes (reportOf r)) (z ++ eights x) (drop (outcomeLength c) out)))
