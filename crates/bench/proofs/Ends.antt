@@ -13,7 +13,7 @@ use Rattle.ground.proofs.Fills.{back-in, part-length}
 use Rattle.ground.proofs.Laws.{true-or-false, never}
 use Rattle.memory.specs.Areas.{areAreasAccepted}
 use Rattle.memory.specs.declared.Reading.{Reading}
-use Rattle.steps.specs.Benches.{Lent, Bench, areasIn, areFilesAccepted, isAccepted}
+use Rattle.steps.specs.Benches.{Lent, Bench, InTypes, areasIn, areFilesAccepted, isAccepted}
 use Rattle.steps.specs.Answers.{numberOf, reportOf}
 use Rattle.steps.specs.Lanes.{predicateOf, governingBytes}
 use Rattle.steps.specs.Outcomes.{answersOf, scalarsAfter, benchAfter, outcomeOf}
@@ -116,10 +116,10 @@ module _ (l : Lent) (b : Bench) (w : ℕ) where
   unfolding isAccepted
   accepts files areas′ e h = rw (e, h)
 
-  pub steps : isAccepted l b ≡ true → (r : StepResult) (after : Bench) → Word r after → StepPromise l w b r l after
+  pub steps : InTypes l w b → isAccepted l b ≡ true → (r : StepResult) (after : Bench) → Word r after → StepPromise l w b r l after
   unfolding EndsAs stepOf
-  steps h r after e = rw h e
+  steps t h r after e = record { came = t; ends = rw h e }
 
-  pub set-up : isAccepted l b ≡ false → (r : StepResult) → r ≡ record { count = 0; answer = SetUp } → StepPromise l w b r l b
+  pub set-up : InTypes l w b → isAccepted l b ≡ false → (r : StepResult) → r ≡ record { count = 0; answer = SetUp } → StepPromise l w b r l b
   unfolding stepOf
-  set-up h r q = rw h (rw q)
+  set-up t h r q = record { came = t; ends = rw h (rw q) }

@@ -1,4 +1,5 @@
 -- What the proofs of the step share.
+pub mod Lends
 pub mod Small
 pub mod Turns
 pub mod Digits

@@ -1,5 +1,5 @@
 -- Lists made of a function of the index, and what holds below a number.
-use Prim.Native.Nat.{ℕ, zero, suc, _+_, _*_}
+use Prim.Native.Nat.{ℕ, zero, suc, _+_, _*_, _<_}
 use mathlib.Core.Bool.{Bool, false, _||_}
 use mathlib.Core.List.{List, [], _∷_, _++_}
 use lib.ListN.{getD, take, drop}
@@ -28,6 +28,10 @@ little f i (suc n) = f i + 256 * little f (i + 1) n
 -- the number that n bytes of a list make from a place on
 abbrev pub bytesAt : List ℕ → ℕ → ℕ → ℕ
 bytesAt s at n = little (λ j. getD s (at + j) 0) 0 n
+
+-- every number of a list is below n; one that is not there counts as 0
+abbrev pub EachBelow : ℕ → List ℕ → Type 0
+EachBelow n s = (k : ℕ) → getD s k 0 < n
 
 -- a list with n of its elements, from place a on, replaced
 unfoldable pub replaced : List ℕ → ℕ → ℕ → List ℕ → List ℕ

@@ -1,2 +1,3 @@
 -- The laws of what a host is promised.
 pub mod Unique
+pub mod Told

@@ -4,12 +4,13 @@ use mathlib.Core.Path.{_≡_, refl, sym, ap, subst, _∙_}
 use mathlib.Core.Bool.{Bool, true, false}
 use mathlib.Core.List.{List, []}
 use mathlib.Core.Logic.{⊎-elim}
-use Prim.Native.Nat.{ℕ, _*_, _/_, _<_}
+use Prim.Native.Nat.{ℕ, _*_, _/_, _^_, _<_}
 use lib.Dec.{eqb}
 use Rattle.ground.specs.Choices.{if_then_else_}
 use Rattle.ground.specs.Lists.{replaced}
 use Rattle.ground.specs.Sizes.{bytesOf}
 use Rattle.words.specs.Families.{readOf}
+use Rattle.words.proofs.Decodes.{insn-means}
 use Rattle.steps.specs.Insns.{Insn, Decoded, Outside, Undefined, Is}
 use Rattle.memory.specs.Addresses.{plusOf}
 use Rattle.memory.specs.Areas.{Areas}
@@ -136,7 +137,7 @@ module _ (l : Lent) (b : Bench) (l′ : Lent) (b′ : Bench) (accepted : Accepte
   end {r} {r′} {x} {x′} h p =
       subst (λ (q : Report). Same l (if eqb (r .number) 0 then x else b) l′ (if eqb (q .number) 0 then x′ else b′)) h (pick (eqb (r .number) 0) p same)
 
-  module _ (w : ℕ) (rights : SameRights l w b l′ b′) where
+  module _ (w : ℕ) (small : w < 2 ^ 32) (rights : SameRights l w b l′ b′) where
     -- a fact of the outcomes, from that of a refusal and that of a load's
     outcomes : (P : Outcome → Outcome → Type 0)
         → ((r : Report) → P (carriedOut l b (Stop r)) (carriedOut l′ b′ (Stop r)))
@@ -153,7 +154,7 @@ module _ (l : Lent) (b : Bench) (l′ : Lent) (b′ : Bench) (accepted : Accepte
         each : (d : Decoded) → readOf w ≡ d → P₂ (atStack l (b .scalars) (plannedBy (l .settings) (b .scalars) d))
         each Outside e = stop (refusalReport 2)
         each Undefined e = stop (refusalReport 3)
-        each (Is i) e = ⊎-elim (λ h. subst P₂ (sym (h .1)) (go i (h .0))) (λ h. subst P₂ (sym (h .2)) (stop (h .0))) (ways l w b accepted i e)
+        each (Is i) e = ⊎-elim (λ h. subst P₂ (sym (h .1)) (go i (h .0))) (λ h. subst P₂ (sym (h .2)) (stop (h .0))) (ways l w b accepted i (insn-means w small i e))
 
     pub same-report : stepOf l w b .report ≡ stepOf l′ w b′ .report
     unfolding outcomeOf

@@ -1,4 +1,4 @@
--- Demand 2 over the definition of a step, in the words of specs/Said, specs/Given and specs/Leaves: where each element lies, what a load
+-- Demand 2 of any outcome that meets the promise of a step, in the words of specs/Said, specs/Demand1 and specs/Demand2: where each element lies, what a load
 -- that ran leaves, and that these words leave nothing open. Which words decode is stated in the crate words (Decodes).
 use mathlib.Core.Path.{_≡_, refl, sym, ap, subst, subst₂, _∙_}
 use mathlib.Core.Bool.{Bool, true, false}
@@ -11,8 +11,8 @@ use lib.ListN.{length}
 use Rattle.ground.specs.Sizes.{bytesOf}
 use Rattle.steps.specs.Insns.{Insn, Shape, Replicate, ByElement, Contiguous, Block, Offset, Imm, Reg, Back}
 use Rattle.memory.specs.Addresses.{wrap, wrapℤ}
-use Rattle.steps.specs.Benches.{Lent, Bench, areasIn}
-use Rattle.steps.specs.Answers.{numberOf}
+use Rattle.steps.specs.Benches.{Lent, Bench}
+use Rattle.steps.specs.Answers.{numberOf, reportOf}
 use Rattle.steps.specs.Terms.{signed4, scalar}
 use Rattle.steps.specs.Plans.{spreadOf, planWith, planOf}
 use Rattle.steps.specs.Lanes.{governingBytes, asked, elementAt}
@@ -20,7 +20,7 @@ use Rattle.steps.specs.Outcomes.{Outcome}
 use Rattle.steps.specs.Step.{stepOf, StepPromise}
 use Rattle.steps.specs.Said.{laneBytes, N, K, copies, LaneActive}
 use Rattle.steps.specs.Demand1.{Ready, AllReadable}
-use Rattle.steps.specs.Demand2.{TakesAs, laneIn, Leaves, Done, Octets}
+use Rattle.steps.specs.Demand2.{TakesAs, laneIn, Leaves, Done}
 use Rattle.steps.specs.declared.StepResult.{StepResult}
 use Rattle.steps.proofs.Places.{signed-field, at-first, on-from, by-immediate, by-register}
 use Rattle.steps.proofs.Gives.{runs, ran-only}
@@ -84,54 +84,64 @@ module _ (l : Lent) (x : List ℕ) (i : Insn) where
   unfolding elementAt spreadOf
   ld1r q back h = own 0 h (at-first (scalar x (i .base)) 0 (bytesOf (i .element .memory)) refl)
 
--- A load that is ready and can read every byte of its active elements leaves what document 01 says: each lane its extended
--- number or zero, the base, PC, and everything else as it was.
-pub demand-2 : (l : Lent) (w : ℕ) (b : Bench) (i : Insn) → Ready l w b i → AllReadable l b i → Leaves l b i (stepOf l w b .lent) (stepOf l w b .bench)
-demand-2 l w b i r a = subst₂ (Leaves l b i) (sym (lent-kept l w b)) (sym (ran-bench l w b i r a)) (ran-leaves l w b i r a)
+-- what the definition leaves of such a load
+leaves : (l : Lent) (w : ℕ) (b : Bench) (i : Insn) → Ready l w b i → AllReadable l b i → Leaves l b i (stepOf l w b .lent) (stepOf l w b .bench)
+leaves l w b i r a = subst₂ (Leaves l b i) (sym (lent-kept l w b)) (sym (ran-bench l w b i r a)) (ran-leaves l w b i r a)
 
--- The same of any outcome that meets the promise and ran.
-pub demand-2-promise : (l : Lent) (w : ℕ) (b : Bench) (r : StepResult) (l₁ : Lent) (b₁ : Bench) → StepPromise l w b r l₁ b₁ → numberOf (r .answer) ≡ 0
-    → Done l w b l₁ b₁
-demand-2-promise l w b r l₁ b₁ p z =
-    let d = ran-only l w b (sym (ap (λ (o : Outcome). o .report .number) p) ∙ z) in
-    (d .0, d .1, d .2, subst (λ (o : Outcome). Leaves l b (d .0) (o .lent) (o .bench)) (sym p) (demand-2 l w b (d .0) (d .1) (d .2)))
+-- Of any result r, and any bench left, that meet the promise of a step:
+module _ (l : Lent) (w : ℕ) (b : Bench) (r : StepResult) (l₁ : Lent) (b₁ : Bench) (promise : StepPromise l w b r l₁ b₁) where
+  -- it is so of the outcome if it is so of the definition's
+  by-promise : (P : Outcome → Type 0) → P (stepOf l w b) → P (record { report = reportOf r; lent = l₁; bench = b₁ })
+  by-promise P = subst P (sym (promise .ends))
 
--- Those loads run, and nothing else does.
-pub demand-2-runs : (l : Lent) (w : ℕ) (b : Bench) → (stepOf l w b .report .number ≡ 0) ↔ ((i : Insn) × Ready l w b i × AllReadable l b i)
-demand-2-runs l w b = (ran-only l w b, λ h. runs l w b (h .0) (h .1) (h .2))
+  -- A load that is ready and can read every byte of its active elements leaves what document 01 says: each lane its extended
+  -- number or zero, the base, PC, and everything else as it was.
+  pub demand-2 : (i : Insn) → Ready l w b i → AllReadable l b i → Leaves l b i l₁ b₁
+  demand-2 i ready all = by-promise (λ (o : Outcome). Leaves l b i (o .lent) (o .bench)) (leaves l w b i ready all)
 
--- These words leave nothing open: no two benches meet them.
-pub demand-2-determined : (l : Lent) (w : ℕ) (b : Bench) (i : Insn) → Ready l w b i → AllReadable l b i → Octets (areasIn l b)
-    → (l₁ l₂ : Lent) (b₁ b₂ : Bench) → Leaves l b i l₁ b₁ → Leaves l b i l₂ b₂ → (l₁ ≡ l₂) × (b₁ ≡ b₂)
-demand-2-determined l w b i r a o = determined l w b i r a o
+  -- Those loads run, and nothing else does.
+  pub demand-2-runs : (numberOf (r .answer) ≡ 0) ↔ ((i : Insn) × Ready l w b i × AllReadable l b i)
+  demand-2-runs =
+      by-promise (λ (o : Outcome). (o .report .number ≡ 0) ↔ ((i : Insn) × Ready l w b i × AllReadable l b i))
+      (ran-only l w b (promise .came .word), λ h. runs l w b (h .0) (h .1) (h .2))
 
--- The count is the number of reads in the definition.
-pub demand-2-count : (l : Lent) (w : ℕ) (b : Bench) (i : Insn) → Ready l w b i → AllReadable l b i
-    → let p = planOf (l .settings .vl) (b .scalars) i in stepOf l w b .report .count ≡ length (asked p (governingBytes l p))
-demand-2-count l w b i r a = ran-count l w b i r a
+  -- So, where it ran, the word is such a load, and that is what it leaves.
+  pub demand-2-promise : numberOf (r .answer) ≡ 0 → Done l w b l₁ b₁
+  demand-2-promise z = let d = demand-2-runs .0 z in (d .0, d .1, d .2, demand-2 (d .0) (d .1) (d .2))
 
--- An inactive lane becomes zero; in a block load it is one of the block's own, and zero in each copy; bytes left over are zero. Of an
--- instruction that ran, and k one of its lanes:
-module _ (l : Lent) (w : ℕ) (b : Bench) (i : Insn) (ready : Ready l w b i) (all : AllReadable l b i) (k : ℕ) (inside : k < N l i) where
-  -- what lane k of its register holds
-  abbrev lane : ℕ
-  lane = laneIn l (stepOf l w b .bench .vectors) (i .target) (laneBytes i) k
+  -- These words leave nothing open: a bench of which they hold is the one that the step leaves.
+  pub demand-2-determined : (l₂ : Lent) (b₂ : Bench) → Done l w b l₂ b₂ → (l₂ ≡ l₁) × (b₂ ≡ b₁)
+  demand-2-determined l₂ b₂ (i, ready, all, done) = determined l w b i ready all (promise .came) l₂ l₁ b₂ b₁ done (demand-2 i ready all)
 
-  none : {s : Shape} → i .shape ≡ s → ((e : ℕ) → TakesAs s l i k e → ⊥) → lane ≡ 0
-  none {s} h q = demand-2 l w b i ready all .zero k inside (λ e t. q e (subst (λ (u : Shape). TakesAs u l i k e) h t))
+  -- The count is the number of reads in the definition.
+  pub demand-2-count : (i : Insn) → Ready l w b i → AllReadable l b i
+      → let p = planOf (l .settings .vl) (b .scalars) i in r .count ≡ length (asked p (governingBytes l p))
+  demand-2-count i ready all =
+      let p = planOf (l .settings .vl) (b .scalars) i in
+      by-promise (λ (o : Outcome). o .report .count ≡ length (asked p (governingBytes l p))) (ran-count l w b i ready all)
 
-  pub inactive-zero : (o : Offset) → i .shape ≡ Contiguous o → (LaneActive l i k → ⊥) → lane ≡ 0
-  inactive-zero o h q = none h (λ e t. q (t .1))
+  -- An inactive lane becomes zero; in a block load it is one of the block's own, and zero in each copy; bytes left over are zero. Of an
+  -- instruction that ran, and k one of its lanes:
+  module _ (i : Insn) (ready : Ready l w b i) (all : AllReadable l b i) (k : ℕ) (inside : k < N l i) where
+    -- what lane k of its register holds
+    abbrev lane : ℕ
+    lane = laneIn l (b₁ .vectors) (i .target) (laneBytes i) k
 
-  pub element-inactive-zero : (imm6 : ℕ) → i .shape ≡ ByElement imm6 → (LaneActive l i k → ⊥) → lane ≡ 0
-  element-inactive-zero imm6 h q = none h (λ e t. q (t .1))
+    none : {s : Shape} → i .shape ≡ s → ((e : ℕ) → TakesAs s l i k e → ⊥) → lane ≡ 0
+    none {s} h q = demand-2 i ready all .zero k inside (λ e t. q e (subst (λ (u : Shape). TakesAs u l i k e) h t))
 
-  pub block-inactive-zero : (wide : Bool) (o : Offset) → i .shape ≡ Block wide o → (LaneActive l i (k % K wide i) → ⊥) → lane ≡ 0
-  block-inactive-zero wide o h q = none h (λ e t. q (t .2))
+    pub inactive-zero : (o : Offset) → i .shape ≡ Contiguous o → (LaneActive l i k → ⊥) → lane ≡ 0
+    inactive-zero o h q = none h (λ e t. q (t .1))
 
-  pub left-over-zero : (wide : Bool) (o : Offset) → i .shape ≡ Block wide o → copies l wide ≤ k / K wide i → lane ≡ 0
-  left-over-zero wide o h q = none h (λ e t. let c = t .1 in omega arith)
+    pub element-inactive-zero : (imm6 : ℕ) → i .shape ≡ ByElement imm6 → (LaneActive l i k → ⊥) → lane ≡ 0
+    element-inactive-zero imm6 h q = none h (λ e t. q (t .1))
 
-  -- LD1R: "the rest of the Z register becomes zero"
-  pub rest-zero : (q : ℕ) (back : Back) → i .shape ≡ Replicate q back → 8 * 2 ^ q ≤ k * laneBytes i → lane ≡ 0
-  rest-zero q back h g = none h (λ e t. let c = t .1 in omega arith)
+    pub block-inactive-zero : (wide : Bool) (o : Offset) → i .shape ≡ Block wide o → (LaneActive l i (k % K wide i) → ⊥) → lane ≡ 0
+    block-inactive-zero wide o h q = none h (λ e t. q (t .2))
+
+    pub left-over-zero : (wide : Bool) (o : Offset) → i .shape ≡ Block wide o → copies l wide ≤ k / K wide i → lane ≡ 0
+    left-over-zero wide o h q = none h (λ e t. let c = t .1 in omega arith)
+
+    -- LD1R: "the rest of the Z register becomes zero"
+    pub rest-zero : (q : ℕ) (back : Back) → i .shape ≡ Replicate q back → 8 * 2 ^ q ≤ k * laneBytes i → lane ≡ 0
+    rest-zero q back h g = none h (λ e t. let c = t .1 in omega arith)

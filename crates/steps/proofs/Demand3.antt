@@ -1,4 +1,4 @@
--- Demand 3 over the definition of a step, in the words of specs/Said and specs/Agreed: nothing but the active elements matters.
+-- Demand 3 over the definition of a step, in the words of specs/Said and specs/Demand3: nothing but the active elements matters.
 --
 -- No value shows a read by itself. So the order of reads is stated by which byte 6 or 7 names and by the count (demand 1), and "its
 -- memory is not looked at" by demand 3: rights and bytes may differ wherever no active element lies, and nothing that a step tells or
@@ -43,14 +43,14 @@ module _ (l : Lent) (b : Bench) (l′ : Lent) (b′ : Bench) (w : ℕ)
   -- Both give the same answer, count, element and address.
   pub demand-3-answer : r ≡ r′
   demand-3-answer =
-      result-unique r r′ (ap (λ (o : Outcome). o .report) first ∙ same-report l b l′ b′ accepted accepted′ same w rights
-      ∙ sym (ap (λ (o : Outcome). o .report) second))
+      result-unique r r′ (ap (λ (o : Outcome). o .report) (first .ends) ∙ same-report l b l′ b′ accepted accepted′ same w (first .came .word) rights
+      ∙ sym (ap (λ (o : Outcome). o .report) (second .ends)))
 
   -- If the bytes of the active elements are equal as well, vector file and scalars end equal; and where it ran, they are what demand 2 says.
   pub demand-3-end : SameBytes l w b l′ b′ → Same l₁ b₁ l₂ b₂ × (numberOf (r .answer) ≡ 0 → Done l w b l₁ b₁ × Done l′ w b′ l₂ b₂)
   demand-3-end bytes = (
-    subst₂ (λ (o o′ : Outcome). Same (o .lent) (o .bench) (o′ .lent) (o′ .bench)) (sym first) (sym second)
-        (same-after l b l′ b′ accepted accepted′ same w rights bytes),
+    subst₂ (λ (o o′ : Outcome). Same (o .lent) (o .bench) (o′ .lent) (o′ .bench)) (sym (first .ends)) (sym (second .ends))
+        (same-after l b l′ b′ accepted accepted′ same w (first .came .word) rights bytes),
     λ z. (
       demand-2-promise l w b r l₁ b₁ first z,
       demand-2-promise l′ w b′ r′ l₂ b₂ second

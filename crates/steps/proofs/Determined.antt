@@ -15,16 +15,18 @@ use Rattle.ground.specs.Lists.{little}
 use Rattle.ground.proofs.Sizes.{bytes-some, register-room, register-lanes}
 use Rattle.steps.specs.Insns.{Insn}
 use Rattle.memory.specs.Addresses.{wrap}
+use Rattle.memory.specs.Areas.{Area}
 use Rattle.memory.specs.Bytes.{lookOf}
+use Rattle.memory.specs.Said.{OneOf, in-flash, in-ram}
 use Rattle.memory.specs.Troubles.{byteFound}
 use Rattle.memory.proofs.Looks.{right-byte}
-use Rattle.steps.specs.Benches.{Lent, Bench, areasIn}
+use Rattle.steps.specs.Benches.{Lent, Bench, InTypes, areasIn}
 use Rattle.steps.specs.Terms.{scalar}
 use Rattle.steps.specs.Plans.{planOf}
 use Rattle.steps.specs.Lanes.{governingBytes, laneTakes}
 use Rattle.steps.specs.Said.{m, laneBytes, N, Active, byteAt}
 use Rattle.steps.specs.Demand1.{Ready, AllReadable}
-use Rattle.steps.specs.Demand2.{Takes, laneIn, Extends, Contains, ElementValue, WrittenBack, Leaves, Octets}
+use Rattle.steps.specs.Demand2.{Takes, laneIn, Extends, Contains, ElementValue, WrittenBack, Leaves}
 use Rattle.steps.specs.declared.Plan.{Plan}
 use Rattle.steps.proofs.Fields.{adds-back, back-adds}
 use Rattle.steps.proofs.Actives.{takes-there, there-takes, takes-active}
@@ -39,12 +41,17 @@ extended-once true bits lane v x y p q =
     (λ t. let h = ltb-false v (2 ^ (bits - 1)) t in omega (arith, p .1 h, q .1 h))
     (true-or-false (ltb v (2 ^ (bits - 1))))
 
-module _ (l : Lent) (w : ℕ) (b : Bench) (i : Insn) (ready : Ready l w b i) (all : AllReadable l b i) (octets : Octets (areasIn l b)) where
+module _ (l : Lent) (w : ℕ) (b : Bench) (i : Insn) (ready : Ready l w b i) (all : AllReadable l b i) (came : InTypes l w b) where
   abbrev plan : Plan
   plan = planOf (l .settings .vl) (b .scalars) i
 
   abbrev n : ℕ
   n = l .settings .vl / 8
+
+  -- every number of an area is a byte
+  octets : {r : Area} → OneOf (areasIn l b) r → (j : ℕ) → getD (r .bytes) j 0 < 256
+  octets in-flash = came .flash
+  octets in-ram = came .ram
 
   -- the bytes of an active element
   abbrev byte : ℕ → ℕ → ℕ
@@ -54,7 +61,7 @@ module _ (l : Lent) (w : ℕ) (b : Bench) (i : Insn) (ready : Ready l w b i) (al
   contains e q j h =
       let c = all e q j h in
       let v = ap byteFound (right-byte (areasIn l b) (ready .defined .accepted .areas) _ (c .1) (c .2) (c .3)) in
-      (c .0, c .1, c .2, v, rw v (octets (c .0) (c .1) _))
+      (c .0, c .1, c .2, v, rw v (octets (c .1) _))
 
   value : (e : ℕ) → Active l i e → ElementValue l b i e (little (byte e) 0 (m i))
   value e q = record { byte = byte e; contained = contains e q; value = refl }

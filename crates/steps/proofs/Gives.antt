@@ -2,7 +2,7 @@
 use mathlib.Core.Path.{_≡_, refl, sym, ap, subst, _∙_}
 use mathlib.Core.Bool.{Bool, true, false, not, _&&_}
 use mathlib.Core.Logic.{_↔_, _⊎_, inl, inr, ⊎-elim}
-use Prim.Native.Nat.{ℕ, _+_, _-_, _%_, _≤_}
+use Prim.Native.Nat.{ℕ, _+_, _-_, _%_, _^_, _≤_, _<_}
 use native.Mathlib.Nat.{zero-add, sub-zero}
 use native.Mathlib.Omega.{arith}
 use lib.Dec.{ltb, eqb}
@@ -10,6 +10,8 @@ use borrow.Author.Tests.{eqb-true, eqb-false, ltb-true, ltb-false, lt-ltb, not-t
 use Rattle.ground.specs.Choices.{if_then_else_}
 use Rattle.ground.proofs.Laws.{true-or-false, never, off, and-other, and-left, and-right, if-cases}
 use Rattle.words.specs.Families.{readOf}
+use Rattle.words.proofs.Decodes.{means-read, outside-exactly, undefined-means, insn-means}
+use Rattle.words.specs.Layouts.{Means}
 use Rattle.steps.specs.Insns.{Insn, Decoded, Outside, Undefined, Is}
 use Rattle.memory.specs.declared.Fault.{Fault}
 use Rattle.memory.specs.declared.Fault.the-variants.{Nowhere, Denied}
@@ -84,7 +86,7 @@ module _ (l : Lent) (w : ℕ) (b : Bench) where
   abbrev of-load : Insn → Prepared
   of-load i = stacked (plannedLoad (l .settings) (b .scalars) i)
 
-  pub ways : Accepted l b → (i : Insn) → readOf w ≡ Is i → Way i (of-load i)
+  pub ways : Accepted l b → (i : Insn) → Means w (Is i) → Way i (of-load i)
   unfolding plannedLoad refusals
   ways a i reads =
       if-cases (λ q. Way i (stacked q)) (isWide (i .shape) && not (l .settings .f64mm)) _ _
@@ -118,19 +120,19 @@ module _ (l : Lent) (w : ℕ) (b : Bench) where
       ))
       )))
 
-  load : Accepted l b → (i : Insn) → readOf w ≡ Is i → Says (of-load i)
+  load : Accepted l b → (i : Insn) → Means w (Is i) → Says (of-load i)
   load a i reads = ⊎-elim (λ h. subst Says (sym (h .1)) (carried i (h .0))) (λ h. subst Says (sym (h .2)) (h .1)) (ways a i reads)
 
-  decoded : Accepted l b → (d : Decoded) → readOf w ≡ d → Says (stacked (plannedBy (l .settings) (b .scalars) d))
-  decoded a Outside e = S.outside a e
-  decoded a Undefined e = S.undefined a e
-  decoded a (Is i) e = load a i e
+  decoded : w < 2 ^ 32 → Accepted l b → (d : Decoded) → readOf w ≡ d → Says (stacked (plannedBy (l .settings) (b .scalars) d))
+  decoded small a Outside e = S.outside a (outside-exactly w small .0 e)
+  decoded small a Undefined e = S.undefined a (undefined-means w small e)
+  decoded small a (Is i) e = load a i (insn-means w small i e)
 
-  pub step-given : Given l w b (stepOf l w b .report)
+  pub step-given : w < 2 ^ 32 → Given l w b (stepOf l w b .report)
   unfolding stepOf preparedOf plannedOf
-  step-given =
+  step-given small =
       if-cases (λ (o : Outcome). Given l w b (o .report)) (isAccepted l b) _ _
-      (λ t. decoded (accepted-exactly l b .0 t) (readOf w) refl)
+      (λ t. decoded small (accepted-exactly l b .0 t) (readOf w) refl)
       (λ f. S.set-up (λ a. never (accepted-exactly l b .1 a) f))
 
   -- and back: each row of the table is what the definition reports
@@ -138,8 +140,8 @@ module _ (l : Lent) (w : ℕ) (b : Bench) where
   unfolding stepOf preparedOf plannedOf
   evaluated d a e = rw (accepted-exactly l b .1 a, e)
 
-  loads : (i : Insn) → Accepted l b → readOf w ≡ Is i → stepOf l w b .report ≡ carriedOut l b (of-load i) .report
-  loads i a e = ap (λ (o : Outcome). o .report) (evaluated (Is i) a e)
+  loads : (i : Insn) → Accepted l b → Means w (Is i) → stepOf l w b .report ≡ carriedOut l b (of-load i) .report
+  loads i a e = ap (λ (o : Outcome). o .report) (evaluated (Is i) a (means-read w (Is i) e))
 
   f64mm-fine : (i : Insn) → (Wide i → l .settings .f64mm ≡ true) → (isWide (i .shape) && not (l .settings .f64mm)) ≡ false
   f64mm-fine i h = off _ (λ t. never (h (wide-exactly (i .shape) .0 (and-left (isWide (i .shape)) _ t))) (not-true _ (and-right (isWide (i .shape)) _ t)))
@@ -165,7 +167,7 @@ module _ (l : Lent) (w : ℕ) (b : Bench) where
       let d = r .defined in
       let f = off (stackFails (b .scalars) (plan i) (governingBytes l (plan i)))
       (λ t. let s = stack-exactly l b (d .accepted) i (d .long) .0 t in s .2 (r .stack (s .0) (s .1))) in
-      evaluated (Is i) (d .accepted) (d .reads) ∙ ap (carriedOut l b) (at-stack i d false f)
+      evaluated (Is i) (d .accepted) (means-read w (Is i) (d .reads)) ∙ ap (carriedOut l b) (at-stack i d false f)
 
   told-by : (o : Outcome) (r : Report) → stepOf l w b ≡ o → o .report ≡ r → stepOf l w b .report ≡ r
   told-by o r e h = ap (λ (v : Outcome). v .report) e ∙ h
@@ -185,26 +187,26 @@ module _ (l : Lent) (w : ℕ) (b : Bench) where
       surveyed i r _ (survey-is l b i a long ∙ walk-stopped (want l b i a long) (answer l b i a long) 0 0 (elements l b i a long) s
       ∙ (λ j. reportWith (faultNumber t) (m j) e (byteAt l (b .scalars) i e k)))
 
-  pub meant : (r : Report) → Given l w b r → stepOf l w b .report ≡ r
+  pub meant : w < 2 ^ 32 → (r : Report) → Given l w b r → stepOf l w b .report ≡ r
   unfolding stepOf plannedLoad refusals
-  meant r (S.ran i ready all c) =
+  meant small r (S.ran i ready all c) =
       let a = ready .defined .accepted in
       let long = ready .defined .long in
       surveyed i ready _ (survey-clear l b i a long all ∙ ap (λ (n : ℕ). reportWith 0 n 0 0) (counted-once (Active l i) (counts-all l b i a long) c))
-  meant r (S.set-up refused) = rw (off (isAccepted l b) (λ t. refused (accepted-exactly l b .0 t)))
-  meant r (S.outside a e) = told-by _ _ (evaluated Outside a e) refl
-  meant r (S.undefined a e) = told-by _ _ (evaluated Undefined a e) refl
-  meant r (S.no-f64mm i a e v f) = loads i a e ∙ rw (wide-exactly (i .shape) .1 v, f)
-  meant r (S.switched-off i a e has o) = loads i a e ∙ rw (f64mm-fine i has, off (switchedOn (l .settings) (i .shape)) (λ t. o (on-exactly l (i .shape) .0 t)))
-  meant r (S.short i a e v has on s) = loads i a e ∙ rw (f64mm-fine i (λ _. has), on-exactly l (i .shape) .1 on, wide-exactly (i .shape) .1 v, lt-ltb _ _ s)
-  meant r (S.stack i d h c z) =
+  meant small r (S.set-up refused) = rw (off (isAccepted l b) (λ t. refused (accepted-exactly l b .0 t)))
+  meant small r (S.outside a e) = told-by _ _ (evaluated Outside a (outside-exactly w small .1 e)) refl
+  meant small r (S.undefined a e) = told-by _ _ (evaluated Undefined a (means-read w Undefined e)) refl
+  meant small r (S.no-f64mm i a e v f) = loads i a e ∙ rw (wide-exactly (i .shape) .1 v, f)
+  meant small r (S.switched-off i a e has o) = loads i a e ∙ rw (f64mm-fine i has, off (switchedOn (l .settings) (i .shape)) (λ t. o (on-exactly l (i .shape) .0 t)))
+  meant small r (S.short i a e v has on s) = loads i a e ∙ rw (f64mm-fine i (λ _. has), on-exactly l (i .shape) .1 on, wide-exactly (i .shape) .1 v, lt-ltb _ _ s)
+  meant small r (S.stack i d h c z) =
       loads i (d .accepted) (d .reads)
       ∙ ap (λ (p : Prepared). carriedOut l b p .report) (at-stack i d true (stack-exactly l b (d .accepted) i (d .long) .1 (h, c, z)))
-  meant r (S.no-memory i e k ready f c) = stopped i ready Nowhere e k _ f c
-  meant r (S.denied i e k ready f c) = stopped i ready Denied e k _ f c
+  meant small r (S.no-memory i e k ready f c) = stopped i ready Nowhere e k _ f c
+  meant small r (S.denied i e k ready f c) = stopped i ready Denied e k _ f c
 
-  pub given-exactly : (r : Report) → Given l w b r ↔ (stepOf l w b .report ≡ r)
-  given-exactly r = (meant r, λ e. subst (Given l w b) e step-given)
+  pub given-exactly : w < 2 ^ 32 → (r : Report) → Given l w b r ↔ (stepOf l w b .report ≡ r)
+  given-exactly small r = (meant small r, λ e. subst (Given l w b) e (step-given small))
 
   -- 0 is given for a load that is ready and can read all it asks for, and for nothing else
   ran-of : (r : Report) → Given l w b r → r .number ≡ 0 → (i : Insn) × Ready l w b i × AllReadable l b i
@@ -219,11 +221,11 @@ module _ (l : Lent) (w : ℕ) (b : Bench) where
   ran-of r (S.no-memory i e k ready f c) z = absurd (omega arith)
   ran-of r (S.denied i e k ready f c) z = absurd (omega arith)
 
-  pub ran-only : stepOf l w b .report .number ≡ 0 → (i : Insn) × Ready l w b i × AllReadable l b i
-  ran-only = ran-of _ step-given
+  pub ran-only : w < 2 ^ 32 → stepOf l w b .report .number ≡ 0 → (i : Insn) × Ready l w b i × AllReadable l b i
+  ran-only small = ran-of _ (step-given small)
 
   pub runs : (i : Insn) → Ready l w b i → AllReadable l b i → stepOf l w b .report .number ≡ 0
-  runs i ready all = ap (λ (r : Report). r .number) (meant _ (S.ran i ready all (counts-all l b i (ready .defined .accepted) (ready .defined .long))))
+  runs i ready all = ap (λ (r : Report). r .number) (surveyed i ready _ (survey-clear l b i (ready .defined .accepted) (ready .defined .long) all))
 
   -- every report is a result's
   met-of : (r : Report) → Given l w b r → reportOf (resultOf r) ≡ r
@@ -239,8 +241,8 @@ module _ (l : Lent) (w : ℕ) (b : Bench) where
   met-of r (S.no-memory i e k ready f c) = refl
   met-of r (S.denied i e k ready f c) = refl
 
-  pub met : reportOf (resultOf (stepOf l w b .report)) ≡ stepOf l w b .report
-  met = met-of _ step-given
+  pub met : w < 2 ^ 32 → reportOf (resultOf (stepOf l w b .report)) ≡ stepOf l w b .report
+  met small = met-of _ (step-given small)
 
   -- no count is over 256
   fault-few : (i : Insn) → Ready l w b i → (e n : ℕ) → Active l i e → Counted (Active l i) e n → n ≤ elementLimit
@@ -261,5 +263,5 @@ module _ (l : Lent) (w : ℕ) (b : Bench) where
   few-of r (S.no-memory i e k ready f c) = fault-few i ready e _ (f .active) c
   few-of r (S.denied i e k ready f c) = fault-few i ready e _ (f .active) c
 
-  pub counts-few : stepOf l w b .report .count ≤ elementLimit
-  counts-few = few-of _ step-given
+  pub counts-few : w < 2 ^ 32 → stepOf l w b .report .count ≤ elementLimit
+  counts-few small = few-of _ (step-given small)

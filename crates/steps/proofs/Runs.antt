@@ -7,7 +7,8 @@ use native.Mathlib.Omega.{arith}
 use lib.ListN.{length, getD}
 use Rattle.ground.specs.Choices.{if_then_else_}
 use Rattle.ground.proofs.Laws.{off, little-cong, little-below}
-use Rattle.words.specs.Families.{readOf}
+use Rattle.words.specs.Layouts.{Means}
+use Rattle.words.proofs.Decodes.{means-read}
 use Rattle.steps.specs.Insns.{Insn, Is}
 use Rattle.words.specs.Ranges.{InsnInRange, InRange}
 use Rattle.words.proofs.Ranges.{in-range}
@@ -50,8 +51,8 @@ found s accepted a v c (r, o, h, e, k) = go (readRight (r .rights) (a - r .start
     go true p q = ap byteFound p ∙ sym e
     go false p q = let d = q .1 in let z : _≡_ {A = ℕ} 0 1 = cc in absurd (omega arith)
 
-pub in-range-of : (w : ℕ) (i : Insn) → readOf w ≡ Is i → InsnInRange i
-in-range-of w i e = subst InRange e (in-range w)
+pub in-range-of : (w : ℕ) (i : Insn) → Means w (Is i) → InsnInRange i
+in-range-of w i e = subst InRange (means-read w (Is i) e) (in-range w)
 
 module _ (l : Lent) (w : ℕ) (b : Bench) (i : Insn) (ready : Ready l w b i) (all : AllReadable l b i) where
   abbrev plan : Plan

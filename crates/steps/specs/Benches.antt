@@ -1,10 +1,11 @@
 -- "The lent bench", and which set-ups are accepted.
-use Prim.Native.Nat.{ℕ, _*_, _/_, _%_}
+use Prim.Native.Nat.{ℕ, _*_, _/_, _%_, _^_, _<_}
 use mathlib.Core.Bool.{Bool}
 use mathlib.Core.List.{List, [], _∷_}
 use lib.Dec.{leb, eqb}
 use lib.ListN.{length}
 use Rattle.ground.specs.Choices.{allOf}
+use Rattle.ground.specs.Lists.{EachBelow}
 use Rattle.memory.specs.Areas.{Areas, areasOf, areAreasAccepted}
 use Rattle.memory.specs.declared.Map.{Map}
 use Rattle.steps.specs.declared.Settings.{Settings}
@@ -26,6 +27,18 @@ pub record Bench : Type 0 where
 
 abbrev pub areasIn : Lent → Bench → Areas
 areasIn l b = areasOf (l .map) (l .flash) (l .flashRights) (b .ram) (l .ramRights)
+
+-- What comes in is what its types hold: a word of 32 bits, bytes in the files, the areas and their rights, scalars of 64 bits. A list of numbers does
+-- not say so by itself. The promise of a step does, so that no law about a step has to ask its reader for it.
+pub record InTypes (l : Lent) (w : ℕ) (b : Bench) : Type 0 where
+  pub word : w < 2 ^ 32
+  pub vectors : EachBelow 256 (b .vectors)
+  pub predicates : EachBelow 256 (l .predicates)
+  pub scalars : EachBelow (2 ^ 64) (b .scalars)
+  pub flash : EachBelow 256 (l .flash)
+  pub flashRights : EachBelow 256 (l .flashRights)
+  pub ram : EachBelow 256 (b .ram)
+  pub ramRights : EachBelow 256 (l .ramRights)
 
 -- "a multiple of 128, 128 to 2,048"
 abbrev pub lengthTests : ℕ → List Bool

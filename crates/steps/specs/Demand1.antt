@@ -2,8 +2,8 @@
 use Prim.Native.Nat.{ℕ, suc, _%_, _≤_, _<_}
 use mathlib.Core.Path.{_≡_}
 use mathlib.Core.Bool.{true, false}
-use Rattle.words.specs.Families.{readOf}
-use Rattle.steps.specs.Insns.{Insn, Shape, Replicate, ByElement, Contiguous, Block, Outside, Undefined, Is}
+use Rattle.words.specs.Layouts.{LaidOut, Means}
+use Rattle.steps.specs.Insns.{Insn, Shape, Replicate, ByElement, Contiguous, Block, Undefined, Is}
 use Rattle.memory.specs.Areas.{Areas}
 use Rattle.steps.specs.Benches.{Lent, Bench, areasIn}
 use Rattle.steps.specs.Answers.{Report, reportWith}
@@ -48,7 +48,7 @@ On l i = OnAs (i .shape) l
 -- an accepted set-up whose word is a load that is defined and on
 pub record Defined (l : Lent) (w : ℕ) (b : Bench) (i : Insn) : Type 0 where
   pub accepted : Accepted l b
-  pub reads : readOf w ≡ Is i
+  pub reads : Means w (Is i)
   pub f64mm : Wide i → l .settings .f64mm ≡ true
   pub on : On l i
   pub long : Wide i → 256 ≤ l .settings .vl
@@ -65,15 +65,15 @@ AllReadable l b i = (e : ℕ) → Active l i e → (k : ℕ) → k < m i → Can
 abbrev pub elementLimit : ℕ
 elementLimit = 256
 
--- "When the bench says no", row by row: what a step tells, and when
+-- "When the bench says no", row by row: what a step tells, and when. Which word is which load is said by the family table as it is written
 pub data Given (l : Lent) (w : ℕ) (b : Bench) : Report → Type 0 where
   ran : {n : ℕ} (i : Insn) → Ready l w b i → AllReadable l b i → Counted (Active l i) elementLimit n → Given l w b (reportWith 0 n 0 0)
   set-up : (Accepted l b → ⊥) → Given l w b (reportWith 1 0 0 0)
-  outside : Accepted l b → readOf w ≡ Outside → Given l w b (reportWith 2 0 0 0)
-  undefined : Accepted l b → readOf w ≡ Undefined → Given l w b (reportWith 3 0 0 0)
-  no-f64mm : (i : Insn) → Accepted l b → readOf w ≡ Is i → Wide i → l .settings .f64mm ≡ false → Given l w b (reportWith 3 0 0 0)
-  switched-off : (i : Insn) → Accepted l b → readOf w ≡ Is i → (Wide i → l .settings .f64mm ≡ true) → (On l i → ⊥) → Given l w b (reportWith 4 0 0 0)
-  short : (i : Insn) → Accepted l b → readOf w ≡ Is i → Wide i → l .settings .f64mm ≡ true → On l i → l .settings .vl < 256 → Given l w b (reportWith 3 0 0 0)
+  outside : Accepted l b → (LaidOut w → ⊥) → Given l w b (reportWith 2 0 0 0)
+  undefined : Accepted l b → Means w Undefined → Given l w b (reportWith 3 0 0 0)
+  no-f64mm : (i : Insn) → Accepted l b → Means w (Is i) → Wide i → l .settings .f64mm ≡ false → Given l w b (reportWith 3 0 0 0)
+  switched-off : (i : Insn) → Accepted l b → Means w (Is i) → (Wide i → l .settings .f64mm ≡ true) → (On l i → ⊥) → Given l w b (reportWith 4 0 0 0)
+  short : (i : Insn) → Accepted l b → Means w (Is i) → Wide i → l .settings .f64mm ≡ true → On l i → l .settings .vl < 256 → Given l w b (reportWith 3 0 0 0)
   stack : (i : Insn) → Defined l w b i → i .base ≡ 31 → Checks l i → (scalar (b .scalars) 31 % 16 ≡ 0 → ⊥) → Given l w b (reportWith 5 0 0 0)
   no-memory : {n : ℕ} (i : Insn) (e k : ℕ) → Ready l w b i → FirstBad Missing l b i e k → Counted (Active l i) e n
       → Given l w b (reportWith 6 n e (byteAt l (b .scalars) i e k))

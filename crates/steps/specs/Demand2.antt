@@ -78,7 +78,3 @@ pub record Leaves (l : Lent) (b : Bench) (i : Insn) (l′ : Lent) (b′ : Bench)
 -- .. of some load that the word is, which could run
 abbrev pub Done : Lent → ℕ → Bench → Lent → Bench → Type 0
 Done l w b l′ b′ = (i : Insn) × Ready l w b i × AllReadable l b i × Leaves l b i l′ b′
-
--- every number of the areas is a byte, as in every lent slice
-abbrev pub Octets : Areas → Type 0
-Octets a = (r : Area) → OneOf a r → (j : ℕ) → getD (r .bytes) j 0 < 256

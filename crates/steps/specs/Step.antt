@@ -7,7 +7,7 @@ use lib.Dec.{ltb, eqb}
 use Rattle.ground.specs.Choices.{if_then_else_, Row, _⇒_, firstOf}
 use Rattle.words.specs.Families.{readOf}
 use Rattle.steps.specs.Insns.{Insn, Shape, Replicate, ByElement, Contiguous, Block, Decoded, Outside, Undefined, Is}
-use Rattle.steps.specs.Benches.{Lent, Bench, isAccepted}
+use Rattle.steps.specs.Benches.{Lent, Bench, InTypes, isAccepted}
 use Rattle.steps.specs.Answers.{Report, reportOf, refusalReport}
 use Rattle.steps.specs.Terms.{scalar}
 use Rattle.steps.specs.Plans.{planOf}
@@ -82,6 +82,7 @@ unfoldable pub stepOf : Lent → ℕ → Bench → Outcome
 stepOf l w b = if isAccepted l b then carriedOut l b (preparedOf l (b .scalars) w) else refusedOutcome (refusalReport 1) l b
 
 -- What one step promises: its result in the paper's numbers, with the whole bench as it is left, is what the definition says of
--- the bench as it was.
-abbrev pub StepPromise : Lent → ℕ → Bench → StepResult → Lent → Bench → Type 0
-StepPromise l w b r l′ b′ = _≡_ {A = Outcome} (record { report = reportOf r; lent = l′; bench = b′ }) (stepOf l w b)
+-- the bench as it was; and that what came in is what its types hold.
+pub record StepPromise (l : Lent) (w : ℕ) (b : Bench) (r : StepResult) (l′ : Lent) (b′ : Bench) : Type 0 where
+  pub came : InTypes l w b
+  pub ends : _≡_ {A = Outcome} (record { report = reportOf r; lent = l′; bench = b′ }) (stepOf l w b)

@@ -67,3 +67,7 @@ meansOf f = if undefinedIn f then Undefined else Is (insnOf f)
 -- a word is laid out as a row is, of numbers that fit
 abbrev pub LaidOut : ℕ → Type 0
 LaidOut w = (f : Family) × FitWidths (layout f) × (w ≡ word (layout f))
+
+-- .. and the row says of its numbers that it is d: undefined, or an instruction. "no family row fits the fixed bits" is that it is laid out as none
+abbrev pub Means : ℕ → Decoded → Type 0
+Means w d = (x : LaidOut w) × (meansOf (x .0) ≡ d)

@@ -41,7 +41,7 @@ as-outcome : (s : List ℕ) (c : Case) (out : List ℕ) (r : StepResult) {z x : 
     → (let l = lentIn s c in StepPromise l (c .word) (benchIn s c) r l (benchOf z x (partAt s (ramAt c) (c .ram))))
     → reportBytes (reportOf r) ++ ((z ++ eights x) ++ drop (outcomeLength c) out) ≡ outcomeIn s c out
 unfolding outcomeIn outcomeBytes
-as-outcome s c out r {z} {x} h = rw (← h) (sym (append-assoc (reportBytes (reportOf r)) (z ++ eights x) (drop (outcomeLength c) out)))
+as-outcome s c out r {z} {x} h = rw (← (h .ends)) (sym (append-assoc (reportBytes (reportOf r)) (z ++ eights x) (drop (outcomeLength c) out)))
 
 pub put-outcome-spec : {M : Type 1} → statement M
 put-outcome-spec =

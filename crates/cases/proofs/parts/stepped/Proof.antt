@@ -26,6 +26,10 @@ start c = c .before .before .before .before .before .before .before .before .bef
 abbrev lender : tie.After-step-arg2 → tie.Start
 lender c = start (c .before .before .before .before .before .before .before .before .before .before .before)
 
+-- where the scalars have been read
+abbrev scalars-read : tie.After-slice-known6 → tie.After-x
+scalars-read c = c .before .before .before .before .before .before .before .before .before .before .before .before .before
+
 -- z is as long as its part of the bytes
 z-long : (g : tie.Start) → length (g .args .z .now) ≡ length (take (predicatesAt (g .args .case) - 96) (drop 96 (g .args .s .now)))
 z-long g = g .pre .0 ∙ sym (part-length (g .args .s .now) 96 (g .args .case .vectors) (omega (arith, g .pre .2)))
@@ -44,7 +48,8 @@ stepped-spec =
     (λ c. search needs) (λ c. search needs) (λ c. omega (arith, lender (c .before .before) .pre .2))
     (λ c. search needs) (λ c. search needs) (λ c. omega (arith, lender (c .before .before .before) .pre .2))
     (λ c. search needs) (λ c. search needs) (λ c. omega (arith, lender (c .before .before .before .before) .pre .2))
-    (λ c κs. tt) (λ c. search needs) (λ c. search needs)
+    (λ c κs. tt) (λ c. c .before .before .before .z2 .given ∙ scalars-read c .before .before .before .before .z .given)
+    (λ c. c .before .x2 .given ∙ scalars-read c .x .given)
     (λ c.
     let lent = c .before .before .before .before .before .before .before .before .before .before in
     let read = lent .before .before .before .before in
