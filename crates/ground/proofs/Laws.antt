@@ -9,13 +9,13 @@ use native.Mathlib.Nat.{le-of-suc-le-suc, not-suc-le-zero}
 use native.Mathlib.Numerals.{add-one, one-add}
 use lib.Arith.{mod-mul}
 use lib.Pow.{pow-add}
-use lib.Dec.{eqb, lit<}
+use lib.Dec.{eqb, ltb, lit<}
 use lib.ListN.{length, getD, take, drop, length-append, length-take, length-drop, List·getD-append}
 use lib.Seq.{getD-take, getD-drop, getD-append-add}
-use borrow.Author.Tests.{eqb-true, eqb-false}
+use borrow.Author.Tests.{eqb-true, eqb-false, ltb-true}
 use mathlib.Core.Logic.{_⊎_, inl, inr}
 use Rattle.ground.specs.Choices.{if_then_else_, andAll, allOf, Row, firstOf}
-use Rattle.ground.specs.Lists.{listed, anyBelow, little, replaced}
+use Rattle.ground.specs.Lists.{listed, anyBelow, little, EachBelow, replaced}
 
 -- two results that meet one equation are one
 pub only-one {ℓ} : {A : Type ℓ} {a b c : A} → a ≡ c → b ≡ c → a ≡ b
@@ -117,6 +117,9 @@ pub all-at : {A : Type 0} (f : A → Bool) (l : List A) (d : A) → all f l ≡ 
 all-at f [] d h k i = k
 all-at f (a ∷ l) d h k zero = and-left (f a) (all f l) h
 all-at f (a ∷ l) d h k (suc i) = all-at f l d (and-right (f a) (all f l) h) k i
+
+pub each-below : (n : ℕ) (s : List ℕ) → ltb 0 n ≡ true → all (λ x. ltb x n) s ≡ true → EachBelow n s
+each-below n s some h = λ k. ltb-true _ n (all-at (λ x. ltb x n) s 0 h some k)
 
 module _ {A : Type 0} (f : ℕ → A) where
   pub length-listed : (i n : ℕ) → length (listed f i n) ≡ n

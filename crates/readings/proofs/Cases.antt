@@ -1,5 +1,6 @@
--- How a reading is written down as a case, and how a step is compared with it: every number of the outcome, and every length.
+-- How a reading is written down as a case, and how the step of a case is expected to end.
 use Prim.Native.Nat.{ℕ, zero, suc, _+_, _-_, _/_, _^_}
+use mathlib.Core.Path.{_≡_}
 use mathlib.Core.Bool.{Bool, true, false, not, _&&_}
 use mathlib.Core.List.{List, [], _∷_, _++_}
 use lib.Dec.{eqb}
@@ -23,7 +24,16 @@ pub record StarredCase : Type 0 where
   pub vectors : List ℕ
   pub scalars : List ℕ
 
--- Comparing: every number of an outcome, and the length of every list.
+-- how the step of a case is expected to end
+abbrev pub expected : StarredCase → Outcome
+expected c = record { report = c .report; lent = c .lent; bench = record { vectors = c .vectors; scalars = c .scalars; ram = c .bench .ram } }
+
+-- the step of each case of a table ends so
+abbrev pub AllStep : List StarredCase → Type 0
+AllStep [] = Unit {0}
+AllStep (c ∷ cs) = (stepOf (c .lent) (c .word) (c .bench) ≡ expected c) × AllStep cs
+
+-- Comparing, which can be computed: every number of an outcome, and the length of every list. Tests.antt says that what passes is equal.
 
 abbrev pub sameNumbers : List ℕ → List ℕ → Bool
 sameNumbers [] [] = true

@@ -1,7 +1,6 @@
 -- The starred readings of the scope of work, as one statement over one table of cases, by computation.
 use Prim.Native.Nat.{_+_, _-_, _^_}
-use mathlib.Core.Path.{_≡_, refl}
-use mathlib.Core.Bool.{true}
+use mathlib.Core.Path.{refl}
 use mathlib.Core.List.{List, [], _∷_, _++_}
 use Rattle.ground.specs.Lists.{replaced}
 use Rattle.ground.specs.Sizes.{sizeOf}
@@ -17,8 +16,9 @@ use Rattle.steps.specs.Plans.{spreadOf}
 use Rattle.steps.specs.Lanes.{governingBytes, bitOf, isActive, wanted, asked, laneTakes, checksStack, elementAt}
 use Rattle.steps.specs.Outcomes.{answersIn, surveyOf, extended, laneValue, registerByte, registerOf, baseAfter, scalarsAfter, benchAfter, outcomeOf}
 use Rattle.steps.specs.Step.{stackFails, refusals, plannedLoad, plannedOf, preparedOf, stepOf}
-use Rattle.readings.proofs.Cases.{StarredCase, allRight, allActive, noneActive, only, _≔_, sp, pc, zoneWith, empty, page, allOn}
+use Rattle.readings.proofs.Cases.{StarredCase, AllStep, allActive, noneActive, only, _≔_, sp, pc, zoneWith, empty, page, allOn}
 use Rattle.readings.proofs.Cases.{sveOff, simdOff, f64mmAndSveOff, setUpWith, ran, faults, refuses, rising, eight, zeros, nines, copies, plain}
+use Rattle.readings.proofs.Tests.{all-step}
 
 -- the starred rows, in the order of the scope of work
 abbrev starred : List StarredCase
@@ -109,8 +109,8 @@ ours =
 abbrev pub table : List StarredCase
 table = starred ++ ours
 
-pub readings : allRight table ≡ true
+pub readings : AllStep table
 unfolding replaced sizeOf dtypes dtypeOf scalarOf families readOf movedOf isAreaAccepted shareNone areAreasAccepted covers placeOf judged lookOf readingOf
     isAccepted signed4 spreadOf governingBytes bitOf isActive wanted asked laneTakes elementAt answersIn surveyOf extended laneValue registerByte registerOf
     baseAfter scalarsAfter benchAfter outcomeOf checksStack stackFails refusals plannedLoad plannedOf preparedOf stepOf
-readings = refl
+readings = all-step table refl

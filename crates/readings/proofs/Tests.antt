@@ -1,0 +1,74 @@
+-- A comparison that holds says that the two are equal, so that the readings can be settled by computing it.
+use mathlib.Core.Path.{_≡_, refl, sym}
+use mathlib.Core.Bool.{Bool, true, false, _&&_}
+use mathlib.Core.List.{List, [], _∷_}
+use Prim.Native.Nat.{ℕ}
+use lib.Dec.{eqb}
+use borrow.Author.Tests.{eqb-true, not-true}
+use Rattle.ground.proofs.Laws.{never, and-left, and-right}
+use Rattle.memory.specs.declared.Map.{Map}
+use Rattle.steps.specs.Answers.{Report}
+use Rattle.steps.specs.Benches.{Lent}
+use Rattle.steps.specs.Outcomes.{Outcome}
+use Rattle.steps.specs.declared.Settings.{Settings}
+use Rattle.readings.proofs.Cases.{StarredCase, expected, AllStep, sameNumbers, sameBool, sameReport, sameSettings, sameMap, sameLent, outcomeFits}
+use Rattle.readings.proofs.Cases.{isRight, allRight}
+
+-- what the tests of a conjunction say
+ruleset met = (eqb-true, and-left, and-right)
+
+numbers : (xs ys : List ℕ) → sameNumbers xs ys ≡ true → xs ≡ ys
+numbers [] [] h = refl
+numbers [] (y ∷ ys) h = never h refl
+numbers (x ∷ xs) [] h = never h refl
+numbers (x ∷ xs) (y ∷ ys) h = λ i. eqb-true x y (and-left (eqb x y) _ h) i ∷ numbers xs ys (and-right (eqb x y) _ h) i
+
+switches : (a b : Bool) → sameBool a b ≡ true → a ≡ b
+switches true b h = sym h
+switches false b h = sym (not-true b h)
+
+reports : (r t : Report) → sameReport r t ≡ true → r ≡ t
+reports r t h =
+    let n : r .number ≡ t .number = search met in
+    let c : r .count ≡ t .count = search met in
+    let e : r .element ≡ t .element = search met in
+    let a : r .address ≡ t .address = search met in
+    λ i. record { number = n i; count = c i; element = e i; address = a i }
+
+settings : (s t : Settings) → sameSettings s t ≡ true → s ≡ t
+settings s t h =
+    let v : s .vl ≡ t .vl = search met in
+    let simd : s .simd ≡ t .simd = search (switches, met) in
+    let sve : s .sve ≡ t .sve = search (switches, met) in
+    let f64mm : s .f64mm ≡ t .f64mm = search (switches, met) in
+    λ i. record { vl = v i; simd = simd i; sve = sve i; f64mm = f64mm i }
+
+maps : (m n : Map) → sameMap m n ≡ true → m ≡ n
+maps m n h =
+    let f : m .flash .0 ≡ n .flash .0 = search met in
+    let r : m .ram .0 ≡ n .ram .0 = search met in
+    λ i. record { flash = record { 0 = f i }; ram = record { 0 = r i } }
+
+lents : (l k : Lent) → sameLent l k ≡ true → l ≡ k
+lents l k h =
+    let s : l .settings ≡ k .settings = search (settings, met) in
+    let p : l .predicates ≡ k .predicates = search (numbers, met) in
+    let m : l .map ≡ k .map = search (maps, met) in
+    let f : l .flash ≡ k .flash = search (numbers, met) in
+    let g : l .flashRights ≡ k .flashRights = search (numbers, met) in
+    let r : l .ramRights ≡ k .ramRights = search (numbers, met) in
+    λ i. record { settings = s i; predicates = p i; map = m i; flash = f i; flashRights = g i; ramRights = r i }
+
+fits : (c : StarredCase) (o : Outcome) → outcomeFits c o ≡ true → o ≡ expected c
+fits c o h =
+    let r : o .report ≡ c .report = search (reports, met) in
+    let z : o .bench .vectors ≡ c .vectors = search (numbers, met) in
+    let x : o .bench .scalars ≡ c .scalars = search (numbers, met) in
+    let m : o .bench .ram ≡ c .bench .ram = search (numbers, met) in
+    let l : o .lent ≡ c .lent = search (lents, met) in
+    λ i. record { report = r i; lent = l i; bench = record { vectors = z i; scalars = x i; ram = m i } }
+
+-- a table of which the test holds: each of its steps ends as it is expected to
+pub all-step : (cs : List StarredCase) → allRight cs ≡ true → AllStep cs
+all-step [] h = tt
+all-step (c ∷ cs) h = (fits c _ (and-left (isRight c) _ h), all-step cs (and-right (isRight c) _ h))
