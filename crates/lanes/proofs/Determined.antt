@@ -1,7 +1,7 @@
--- Document 01's words leave nothing open: of any input there is one answer.
+-- Document 01's words leave nothing open: of any input there is one answer, and it is the one that `show` promises.
 use mathlib.Core.Path.{_≡_, sym, ap, _∙_}
 use mathlib.Core.List.{List}
-use mathlib.Core.Logic.{⊎-elim}
+use mathlib.Core.Logic.{_↔_, ⊎-elim}
 use Prim.Native.Nat.{ℕ, _/_, _%_, _^_, _<_}
 use native.Mathlib.Nat.{zero-add}
 use lib.Dec.{T}
@@ -10,7 +10,7 @@ use lib.Ieee.Bits.{ofBits-toBits}
 use lib.ListN.{length}
 use Rattle.ground.specs.Lists.{little}
 use Rattle.ground.proofs.Laws.{only-one, true-or-false, never, little-self, little-cong, pow-bytes}
-use Rattle.lanes.specs.Lanes.{laneThere, floatCase, bitsOf}
+use Rattle.lanes.specs.Lanes.{laneThere, floatCase, bitsOf, ShowPromise}
 use Rattle.lanes.specs.Said.{There, laneByte, AsFloat, AsAsked, OfFormat, LaneAnswer}
 use Rattle.lanes.specs.declared.Kind.{Kind}
 use Rattle.lanes.specs.declared.Kind.the-variants as As
@@ -19,6 +19,7 @@ use Rattle.lanes.specs.declared.Shown.the-variants.{Whole}
 use Rattle.lanes.proofs.Patterns.{case-bits}
 use Rattle.lanes.proofs.Tests.{there-exactly}
 use Rattle.lanes.proofs.Places.{bytes}
+use Rattle.lanes.proofs.Windows.{window-answers}
 
 format-float : (f : Format) (x : Float) → OfFormat (floatCase f x) → T (fits f x)
 format-float binary32 x h = h
@@ -54,11 +55,18 @@ module _ (vl : ℕ) (z : List ℕ) (register : ℕ) (kind : Kind) (width lane : 
       sym (little-self (bitsOf r) (width / 8) room)
       ∙ little-cong (λ j. bitsOf r / 256 ^ j % 256) (laneByte vl z register width lane) 0 0 (width / 8) (λ j l. rw zero-add (a .bytes t j l))
 
-  pub determined : (r s : Shown) → OfFormat r → OfFormat s → LaneAnswer vl z register kind width lane r → LaneAnswer vl z register kind width lane s → r ≡ s
-  determined r s p q a b =
+  pub determined : (r s : Shown) → LaneAnswer vl z register kind width lane r → LaneAnswer vl z register kind width lane s → r ≡ s
+  determined r s a b =
       ⊎-elim
-      (λ h. let t = there-exactly vl z register kind width lane .0 h in alike r s p q (only-one (bits-of r a t) (bits-of s b t)) kind (a .asked t) (b .asked t))
+      (λ h.
+      let t = there-exactly vl z register kind width lane .0 h in
+      alike r s (a .format) (b .format) (only-one (bits-of r a t) (bits-of s b t)) kind (a .asked t) (b .asked t))
       (λ h.
       let none : There vl z register kind width lane → ⊥ = λ t. never (there-exactly vl z register kind width lane .1 t) h in
       only-one (a .none none) (b .none none))
       (true-or-false (laneThere vl (length z) register kind width lane))
+
+  -- what `show` promises is the answer, and nothing else is
+  pub answer-exactly : (r : Shown) → ShowPromise vl z register kind width lane r → (s : Shown) → LaneAnswer vl z register kind width lane s ↔ (s ≡ r)
+  answer-exactly r p s =
+      (λ a. determined s r a (window-answers vl z register kind width lane r p), λ e. rw e (window-answers vl z register kind width lane r p))

@@ -4,7 +4,7 @@ use Prim.Native.Nat.{ℕ, _+_, _/_, _^_, _≤_, _<_}
 use native.Mathlib.Nat.{mul-le-mul-right}
 use native.Mathlib.Omega.{arith}
 use lib.ListN.{length, getD}
-use Rattle.ground.specs.Lists.{bytesAt}
+use Rattle.ground.specs.Lists.{bytesAt, EachBelow}
 use Rattle.ground.proofs.Sizes.{register-room}
 use Rattle.ground.proofs.Turns.{in-bits}
 use Rattle.lanes.specs.Lanes.{laneAt}
@@ -30,8 +30,8 @@ module _ {vl : ℕ} {z : List ℕ} {register : ℕ} {kind : Kind} {width lane : 
       let ends = within in
       omega arith
 
-  pub lane-fitting : ((k : ℕ) → getD z k 0 < 256) → Fitting kind width (bytesAt z (laneAt vl register width lane) (width / 8))
-  lane-fitting small = record {
+  pub lane-fitting : EachBelow 256 z → Fitting kind width (bytesAt z (laneAt vl register width lane) (width / 8))
+  lane-fitting file = record {
     fits = width-exactly kind width .1 (t .sized);
-    below = rw (bytes .whole) at (in-bits (λ j. getD z (laneAt vl register width lane + j) 0) (λ j. small (laneAt vl register width lane + j)) (width / 8));
+    below = rw (bytes .whole) at (in-bits (λ j. getD z (laneAt vl register width lane + j) 0) (λ j. file (laneAt vl register width lane + j)) (width / 8));
   }

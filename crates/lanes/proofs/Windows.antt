@@ -1,4 +1,4 @@
--- What the lane window shows, in document 01's words, over any result that meets its contract; and that the contract leaves nothing open.
+-- What the lane window shows, in document 01's words, over any result that meets its promise; and that the promise leaves nothing open and can be met.
 use mathlib.Core.Path.{_≡_, refl, sym, ap, _∙_}
 use mathlib.Core.List.{List}
 use mathlib.Core.Logic.{_↔_}
@@ -8,10 +8,10 @@ use native.Mathlib.Omega.{arith}
 use lib.Dec.{T}
 use lib.Ieee.{Float, Format, binary32, binary64, ofBits, nanBits, fits}
 use lib.Ieee.Bits.{ofBits-fits}
-use lib.ListN.{length, getD}
-use Rattle.ground.specs.Lists.{little}
+use lib.ListN.{length}
+use Rattle.ground.specs.Lists.{little, EachBelow}
 use Rattle.ground.proofs.Laws.{only-one, off, if-cases, little-digit}
-use Rattle.lanes.specs.Lanes.{laneThere, floatCase, floatOf, shownAs, shownOf, bitsOf}
+use Rattle.lanes.specs.Lanes.{laneThere, floatCase, floatOf, shownAs, shownOf, bitsOf, ShowPromise}
 use Rattle.lanes.specs.Said.{WidthFor, There, laneByte, AsFloat, AsAsked, OfFormat, LaneAnswer}
 use Rattle.lanes.specs.declared.Kind.{Kind}
 use Rattle.lanes.specs.declared.Kind.the-variants as As
@@ -79,22 +79,26 @@ module _ (vl : ℕ) (z : List ℕ) (register : ℕ) (kind : Kind) (width lane : 
   unfolding shownOf
   shown-none n = rw (off (laneThere vl (length z) register kind width lane) (λ h. n (there-exactly vl z register kind width lane .0 h)))
 
-  -- any two results that meet the contract are one
-  pub show-unique : (r s : Shown) → r ≡ shownOf vl z register kind width lane → s ≡ shownOf vl z register kind width lane → r ≡ s
-  show-unique r s p q = only-one p q
+  -- any two results that meet the promise are one
+  pub show-unique : (r s : Shown) → ShowPromise vl z register kind width lane r → ShowPromise vl z register kind width lane s → r ≡ s
+  show-unique r s p q = only-one (p .shown) (q .shown)
 
-  module _ (r : Shown) (p : r ≡ shownOf vl z register kind width lane) where
+  -- .. and of any file of bytes there is one
+  pub show-met : EachBelow 256 z → (r : Shown) × ShowPromise vl z register kind width lane r
+  show-met file = (shownOf vl z register kind width lane, record { came = file; shown = refl })
+
+  module _ (r : Shown) (p : ShowPromise vl z register kind width lane r) where
     -- "no such lane", exactly when it says so
     pub none-exactly : (r ≡ NoLane) ↔ (There vl z register kind width lane → ⊥)
-    none-exactly = (λ e t. some kind bits (sym (p ∙ shown-there t) ∙ e), λ n. p ∙ shown-none n)
+    none-exactly = (λ e t. some kind bits (sym (p .shown ∙ shown-there t) ∙ e), λ n. p .shown ∙ shown-none n)
 
-    module _ (small : (k : ℕ) → getD z k 0 < 256) (t : There vl z register kind width lane) where
+    module _ (t : There vl z register kind width lane) where
       below : bits < 2 ^ width
-      below = lane-fitting t small .below
+      below = lane-fitting t (p .came) .below
 
       -- "with exactly the lane's bits": the number of its bytes, each byte, and no other bit
       pub bits-exactly : bitsOf r ≡ little (laneByte vl z register width lane) 0 (width / 8)
-      bits-exactly = rw (p ∙ shown-there t) (kept kind width bits (t .sized) below)
+      bits-exactly = rw (p .shown ∙ shown-there t) (kept kind width bits (t .sized) below)
 
       pub bits-below : bitsOf r < 2 ^ width
       bits-below = rw bits-exactly below
@@ -102,16 +106,18 @@ module _ (vl : ℕ) (z : List ℕ) (register : ℕ) (kind : Kind) (width lane : 
       pub bytes-exactly : (j : ℕ) → j < width / 8 → bitsOf r / 256 ^ j % 256 ≡ laneByte vl z register width lane j
       bytes-exactly j l =
           rw bits-exactly
-          (rw zero-add at (little-digit (laneByte vl z register width lane) 0 (width / 8) (λ k _. small _) j l))
+          (rw zero-add at (little-digit (laneByte vl z register width lane) 0 (width / 8) (λ k _. p .came _) j l))
 
       -- "as a single, a double or a whole number, as asked"
       pub as-asked : AsAsked kind r
-      as-asked = rw (p ∙ shown-there t) (told-asked kind bits (kept kind width bits (t .sized) below))
+      as-asked = rw (p .shown ∙ shown-there t) (told-asked kind bits (kept kind width bits (t .sized) below))
 
-    -- what `determined` asks of a result besides
+    -- a single or a double that is shown is one
     pub of-format : OfFormat r
     unfolding shownOf
-    of-format = rw p (if-cases OfFormat (laneThere vl (length z) register kind width lane) (shownAs kind bits) NoLane (λ _. told-format kind bits) (λ _. tt))
+    of-format =
+        rw (p .shown)
+        (if-cases OfFormat (laneThere vl (length z) register kind width lane) (shownAs kind bits) NoLane (λ _. told-format kind bits) (λ _. tt))
 
-    pub window-answers : ((k : ℕ) → getD z k 0 < 256) → LaneAnswer vl z register kind width lane r
-    window-answers small = record { none = none-exactly .1; asked = as-asked small; bytes = bytes-exactly small; below = bits-below small }
+    pub window-answers : LaneAnswer vl z register kind width lane r
+    window-answers = record { none = none-exactly .1; asked = as-asked; bytes = bytes-exactly; below = bits-below; format = of-format }

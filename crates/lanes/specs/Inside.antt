@@ -1,5 +1,5 @@
 -- What the functions inside the crate ask of their callers. This file serves proofs alone, and nothing in it has to be believed: the promise of
--- `show` is `shownOf`.
+-- `show` is `ShowPromise`.
 use Prim.Native.Nat.{ℕ, _^_, _<_}
 use mathlib.Core.Path.{_≡_}
 use mathlib.Core.Bool.{true}

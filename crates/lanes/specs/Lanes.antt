@@ -1,12 +1,13 @@
 -- "What does a lane hold?" The lane window's answer, for any input whatever.
 use Prim.Native.Nat.{ℕ, _+_, _*_, _/_}
+use mathlib.Core.Path.{_≡_}
 use mathlib.Core.Bool.{Bool, _||_}
 use mathlib.Core.List.{List, [], _∷_}
 use lib.Dec.{leb, ltb, eqb}
 use lib.ListN.{length}
 use lib.Ieee.{Float, Format, binary32, binary64, ofBits, toBits, nanBits}
 use Rattle.ground.specs.Choices.{if_then_else_, allOf}
-use Rattle.ground.specs.Lists.{bytesAt}
+use Rattle.ground.specs.Lists.{bytesAt, EachBelow}
 use Rattle.steps.specs.Benches.{isLengthAllowed}
 use Rattle.lanes.specs.declared.Kind.{Kind}
 use Rattle.lanes.specs.declared.Kind.the-variants as As
@@ -55,6 +56,12 @@ shownOf vl z register kind width lane =
     if laneThere vl (length z) register kind width lane
     then shownAs kind (bytesAt z (laneAt vl register width lane) (width / 8))
     else NoLane
+
+-- What `show` promises. Every file that can be lent is one of bytes, by its type; but in the logic it is a list of numbers, which does not say so,
+-- and "exactly the lane's bits" holds of bytes alone. So the promise hands this on, and the laws of the window ask it of nobody.
+pub record ShowPromise (vl : ℕ) (z : List ℕ) (register : ℕ) (kind : Kind) (width lane : ℕ) (r : Shown) : Type 0 where
+  pub came : EachBelow 256 z
+  pub shown : r ≡ shownOf vl z register kind width lane
 
 -- the bits that are shown; 0 where there is no lane
 unfoldable pub bitsOf : Shown → ℕ

@@ -56,3 +56,5 @@ pub record LaneAnswer (vl : ℕ) (z : List ℕ) (register : ℕ) (kind : Kind) (
   -- "with exactly the lane's bits"
   pub bytes : There vl z register kind width lane → (j : ℕ) → j < width / 8 → bitsOf r / 256 ^ j % 256 ≡ laneByte vl z register width lane j
   pub below : There vl z register kind width lane → bitsOf r < 2 ^ width
+  -- what is shown as a single is a single, and what is shown as a double a double
+  pub format : OfFormat r

@@ -3,7 +3,7 @@ use steps::allowed;
 ghost use mathlib.Core.Path.{_≡_};
 ghost use Prim.Native.Nat.{_<_, _^_};
 ghost use lib.Ieee.{binary32, binary64};
-ghost use Rattle.lanes.specs.Lanes.{widthFits, laneThere, laneAt, floatOf, shownAs, shownOf};
+ghost use Rattle.lanes.specs.Lanes.{widthFits, laneThere, laneAt, floatOf, shownAs, ShowPromise};
 ghost use Rattle.lanes.specs.Inside.{Fitting};
 
 // How a lane is asked for.
@@ -86,7 +86,7 @@ fn as_asked(kind: Kind, width: u32, bits: u64) -> Shown
 
 // What does a lane hold? Any file, register, width and lane may be asked for.
 pub fn show(vl: u64, z: &[u8], register: u32, kind: Kind, width: u32, lane: u64) -> Shown
-    ensures { λ r. ⌜ r ≡ shownOf vl (now (z .entry)) register kind width lane ⌝ }
+    ensures { λ r. ⌜ ShowPromise vl (now (z .entry)) register kind width lane r ⌝ }
 {
     if lane_there(vl, z.len(), register, kind, width, lane) {
         let at = place(vl, register, width, lane) as usize;

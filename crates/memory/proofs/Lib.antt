@@ -8,4 +8,5 @@ pub mod Alike
 pub mod Elements
 pub mod Accepts
 pub mod Windows
+pub mod Promises
 pub mod Unique

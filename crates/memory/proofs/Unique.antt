@@ -1,5 +1,5 @@
 -- Each public function's promise determines its answer: two answers that meet it are one. Of a window the bytes and the place are
--- determined; the ghost name of the reference is not, and no program can see it.
+-- determined; the ghost name of the reference is not, and no program can see it. `window` and `window_beside` have one promise.
 use mathlib.Core.Path.{_≡_}
 use mathlib.Core.Bool.{Bool}
 use mathlib.Core.List.{List}
@@ -8,36 +8,35 @@ use lib.IntN.{ℤ}
 use denote.Ref.{RefT}
 use Rattle.ground.proofs.Laws.{only-one}
 use Rattle.ground.specs.declared.Size.{Size}
-use Rattle.ground.specs.Sizes.{bytesOf}
 use Rattle.memory.specs.declared.Address.{Address}
 use Rattle.memory.specs.declared.Place.{Place}
 use Rattle.memory.specs.declared.Place.the-variants.{Flash, Ram, Nowhere}
 use Rattle.memory.specs.declared.Cell.{Cell}
 use Rattle.memory.specs.declared.Reading.{Reading}
-use Rattle.memory.specs.Addresses.{plusOf, movedOf}
-use Rattle.memory.specs.Areas.{Areas, areAreasAccepted}
-use Rattle.memory.specs.Bytes.{lookOf}
-use Rattle.memory.specs.Elements.{readingOf}
+use Rattle.memory.specs.Addresses.{PlusPromise, MovedPromise}
+use Rattle.memory.specs.Areas.{Areas, AreasAcceptedPromise}
+use Rattle.memory.specs.Bytes.{BytePromise}
+use Rattle.memory.specs.Elements.{ElementPromise}
 use Rattle.memory.specs.Windows.{PartOf, Shows, shownPlace, WindowPromise}
 
 -- an address is its number
 pub address-unique : {n : ℕ} (x y : Address) → x .0 ≡ n → y .0 ≡ n → x ≡ y
 address-unique x y p q = λ i. record { 0 = only-one p q i }
 
-pub plus-unique : (a n : ℕ) (x y : Address) → x .0 ≡ plusOf a n → y .0 ≡ plusOf a n → x ≡ y
+pub plus-unique : (a n : ℕ) (x y : Address) → PlusPromise a n x → PlusPromise a n y → x ≡ y
 plus-unique a n x y p q = address-unique x y p q
 
-pub moved-unique : (a : ℕ) (d : ℤ) (x y : Address) → x .0 ≡ movedOf a d → y .0 ≡ movedOf a d → x ≡ y
+pub moved-unique : (a : ℕ) (d : ℤ) (x y : Address) → MovedPromise a d x → MovedPromise a d y → x ≡ y
 moved-unique a d x y p q = address-unique x y p q
 
 module _ (m : Areas) where
-  pub areas-accepted-unique : (x y : Bool) → x ≡ areAreasAccepted m → y ≡ areAreasAccepted m → x ≡ y
+  pub areas-accepted-unique : (x y : Bool) → AreasAcceptedPromise m x → AreasAcceptedPromise m y → x ≡ y
   areas-accepted-unique x y p q = only-one p q
 
-  pub byte-unique : (a : ℕ) (x y : Cell) → x ≡ lookOf m a → y ≡ lookOf m a → x ≡ y
+  pub byte-unique : (a : ℕ) (x y : Cell) → BytePromise m a x → BytePromise m a y → x ≡ y
   byte-unique a x y p q = only-one p q
 
-  pub element-unique : (a : ℕ) (s : Size) (x y : Reading) → x ≡ readingOf (lookOf m) a (bytesOf s) → y ≡ readingOf (lookOf m) a (bytesOf s) → x ≡ y
+  pub element-unique : (a : ℕ) (s : Size) (x y : Reading) → ElementPromise m a s x → ElementPromise m a s y → x ≡ y
   element-unique a s x y p q = only-one p q
 
 -- two parts of one slice, from one place to another

@@ -12,7 +12,7 @@ use Rattle.ground.proofs.Laws.{true-or-false}
 use Rattle.memory.specs.declared.Place.{Place}
 use Rattle.memory.specs.declared.Place.the-variants.{Flash, Ram, Nowhere}
 use Rattle.memory.specs.Areas.{Area, Areas, areAreasAccepted, placeOf, placeIn}
-use Rattle.memory.specs.Windows.{PartOf, shownPlace, WindowPromise}
+use Rattle.memory.specs.Windows.{PartOf, Shows, shownPlace, WindowPromise}
 use Rattle.memory.specs.Said.{Holds, AreasAccepted, OneOf, in-flash, in-ram}
 use Rattle.memory.proofs.Places.{holds-exactly, holds-not, PlaceWithin, place-within}
 use Rattle.memory.proofs.Accepts.{areas-exactly}
@@ -61,6 +61,16 @@ module _ (m : Areas) (a : ℕ) (flash ram p : RefT (List ℕ)) (w : WindowPromis
   pub shows-none-refused : (AreasAccepted m → ⊥) → PartOf flash p 0 0
   shows-none-refused n =
       ⊎-elim (λ t. absurd (n (areas-exactly m .0 t))) (λ t. rw (shown-refused m a t) at w) (true-or-false (areAreasAccepted m))
+
+-- RAM that is lent on has another ghost name, and its bytes and its place still: the window of what is lent on is a window of RAM
+pub shows-lent-on : (m : Areas) (a : ℕ) (flash ram lent p : RefT (List ℕ)) → lent .now ≡ ram .now → lent .ptr ≡ ram .ptr
+    → WindowPromise m a flash lent p → WindowPromise m a flash ram p
+shows-lent-on m a flash ram lent p same at = go (shownPlace m a)
+  where
+    go : (q : Place) → Shows flash lent q p → Shows flash ram q p
+    go (Flash k) h = h
+    go (Ram k) h = record { bytes = h .bytes ∙ rw same; block = h .block ∙ rw at; offset = h .offset ∙ rw at }
+    go Nowhere h = h
 
 -- what a part is: no byte where it ends at its start, and all bytes from its start on where it ends with the slice
 pub part-empty : (s p : RefT (List ℕ)) → PartOf s p 0 0 → p .now ≡ []

@@ -1,4 +1,5 @@
 -- Two read-only areas, flash and RAM: which are accepted, and where an address lies.
+use mathlib.Core.Path.{_≡_}
 use Prim.Native.Nat.{ℕ, _+_, _-_, _/_, _%_, _^_}
 use mathlib.Core.Bool.{Bool, false, _||_}
 use mathlib.Core.List.{List, [], _∷_}
@@ -68,6 +69,10 @@ areAreasAccepted m =
     ∷ shareNone (f .start) (length (f .bytes)) (r .start) (length (r .bytes))
     ∷ []
     )
+
+-- what `areas_accepted` promises
+abbrev pub AreasAcceptedPromise : Areas → Bool → Type 0
+AreasAcceptedPromise m r = r ≡ areAreasAccepted m
 
 -- an area of n bytes from start on holds address a
 unfoldable pub covers : ℕ → ℕ → ℕ → Bool

@@ -1,4 +1,5 @@
 -- What a load finds at an address: a byte, or why there is none to read.
+use mathlib.Core.Path.{_≡_}
 use Prim.Native.Nat.{ℕ, _/_, _%_}
 use mathlib.Core.Bool.{Bool}
 use mathlib.Core.List.{List}
@@ -27,3 +28,7 @@ cellAt m P.Nowhere = Bad Nowhere
 
 unfoldable pub lookOf : Areas → ℕ → Cell
 lookOf m a = cellAt m (placeIn m a)
+
+-- what `byte` promises
+abbrev pub BytePromise : Areas → ℕ → Cell → Type 0
+BytePromise m a r = r ≡ lookOf m a

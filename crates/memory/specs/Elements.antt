@@ -1,6 +1,11 @@
 -- What reading an element finds, over any memory: a function from addresses to cells.
+use mathlib.Core.Path.{_≡_}
 use Prim.Native.Nat.{ℕ, zero, suc, _+_, _*_}
+use Rattle.ground.specs.declared.Size.{Size}
+use Rattle.ground.specs.Sizes.{bytesOf}
 use Rattle.memory.specs.Addresses.{plusOf}
+use Rattle.memory.specs.Areas.{Areas}
+use Rattle.memory.specs.Bytes.{lookOf}
 use Rattle.memory.specs.declared.Cell.{Cell}
 use Rattle.memory.specs.declared.Cell.the-variants as C
 use Rattle.memory.specs.declared.Reading.{Reading}
@@ -19,3 +24,7 @@ onCell (C.Bad f) a rest = Bad f (record { 0 = a })
 unfoldable pub readingOf : (ℕ → Cell) → ℕ → ℕ → Reading
 readingOf look a zero = Value 0
 readingOf look a (suc n) = onCell (look a) a (readingOf look (plusOf a 1) n)
+
+-- what `element` promises: over the memory of the areas, as many bytes as the size has
+abbrev pub ElementPromise : Areas → ℕ → Size → Reading → Type 0
+ElementPromise m a s r = r ≡ readingOf (lookOf m) a (bytesOf s)

@@ -25,5 +25,6 @@ Shows flash ram Nowhere p = PartOf flash p 0 0
 unfoldable pub shownPlace : Areas → ℕ → Place
 shownPlace m a = if areAreasAccepted m then placeIn m a else Nowhere
 
+-- what `window` promises, and `window_beside`
 abbrev pub WindowPromise : Areas → ℕ → RefT (List ℕ) → RefT (List ℕ) → RefT (List ℕ) → Type 0
 WindowPromise m a flash ram p = Shows flash ram (shownPlace m a) p

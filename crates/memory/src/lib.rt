@@ -4,11 +4,10 @@ ghost use mathlib.Core.Path.{_≡_};
 ghost use Prim.Native.Nat.{_≤_, _<_, _^_};
 ghost use lib.Dec.{leb};
 ghost use lib.ListN.{length};
-ghost use Rattle.ground.specs.Sizes.{bytesOf};
-ghost use Rattle.memory.specs.Addresses.{plusOf, movedOf};
-ghost use Rattle.memory.specs.Areas.{areasOf, endOf, isAreaAccepted, shareNone, areAreasAccepted, covers, placeOf};
-ghost use Rattle.memory.specs.Bytes.{judged, lookOf};
-ghost use Rattle.memory.specs.Elements.{readingOf};
+ghost use Rattle.memory.specs.Addresses.{PlusPromise, MovedPromise};
+ghost use Rattle.memory.specs.Areas.{areasOf, endOf, isAreaAccepted, shareNone, AreasAcceptedPromise, covers, placeOf};
+ghost use Rattle.memory.specs.Bytes.{judged, lookOf, BytePromise};
+ghost use Rattle.memory.specs.Elements.{readingOf, ElementPromise};
 ghost use Rattle.memory.specs.Windows.{shownPlace, WindowPromise};
 
 // The most bytes of an area, and the bytes of a page.
@@ -22,14 +21,14 @@ pub struct Address(pub u64);
 impl Address {
     // The address n bytes on.
     pub fn plus(self, n: u64) -> Address
-        ensures { λ r. ⌜ r .0 ≡ plusOf (self .0) n ⌝ }
+        ensures { λ r. ⌜ PlusPromise (self .0) n r ⌝ }
     {
         Address(std::num::wrapping_add_u64(self.0, n))
     }
 
     // The address d bytes on, or back. The smallest i64 has no negative, so one byte is stepped by itself.
     pub fn moved(self, d: i64) -> Address
-        ensures { λ r. ⌜ r .0 ≡ movedOf (self .0) d ⌝ }
+        ensures { λ r. ⌜ MovedPromise (self .0) d r ⌝ }
     {
         if d < 0 {
             let less = (-(d + 1)) as u64;
@@ -131,7 +130,7 @@ pub fn areas_accepted(
     ram: &[u8],
     ram_rights: &[u8],
 ) -> bool
-    ensures { λ r. ⌜ r ≡ areAreasAccepted (areasOf map (now (flash .entry)) (now («flash_rights» .entry)) (now (ram .entry)) (now («ram_rights» .entry))) ⌝ }
+    ensures { λ r. ⌜ AreasAcceptedPromise (areasOf map (now (flash .entry)) (now («flash_rights» .entry)) (now (ram .entry)) (now («ram_rights» .entry))) r ⌝ }
 {
     if area_accepted(map.flash, flash.len(), flash_rights.len()) {
         if area_accepted(map.ram, ram.len(), ram_rights.len()) {
@@ -191,7 +190,7 @@ pub fn byte(
     ram_rights: &[u8],
     a: Address,
 ) -> Cell
-    ensures { λ r. ⌜ r ≡ lookOf (areasOf map (now (flash .entry)) (now («flash_rights» .entry)) (now (ram .entry)) (now («ram_rights» .entry))) (a .0) ⌝ }
+    ensures { λ r. ⌜ BytePromise (areasOf map (now (flash .entry)) (now («flash_rights» .entry)) (now (ram .entry)) (now («ram_rights» .entry))) (a .0) r ⌝ }
 {
     match locate(map, flash.len(), ram.len(), a) {
         Place::Flash(k) => judge(flash, flash_rights, k),
@@ -240,9 +239,8 @@ pub fn element(
     a: Address,
     size: Size,
 ) -> Reading
-    ensures { λ r. ⌜ r
-        ≡ readingOf (lookOf (areasOf map (now (flash .entry)) (now («flash_rights» .entry)) (now (ram .entry)) (now («ram_rights» .entry))))
-        (a .0) (bytesOf size) ⌝ }
+    ensures { λ r. ⌜ ElementPromise (areasOf map (now (flash .entry)) (now («flash_rights» .entry)) (now (ram .entry)) (now («ram_rights» .entry)))
+        (a .0) size r ⌝ }
 {
     bytes_from(map, flash, flash_rights, ram, ram_rights, a, size.bytes())
 }
@@ -288,4 +286,20 @@ pub fn window<'f, 'r: 'f>(
         Place::Ram(k) => shorter(&ram[k..], flash),
         Place::Nowhere => &flash[0..0],
     }
+}
+
+// The same window at one lifetime, for a caller who has RAM to write and lends it on beside flash, for as long as the part is looked at.
+// The borrow checker does not cover a call of `window`, with its two lifetimes, from there.
+pub fn window_beside<'a>(
+    map: Map,
+    flash: &'a [u8],
+    flash_rights: &[u8],
+    ram: &'a [u8],
+    ram_rights: &[u8],
+    a: Address,
+) -> &'a [u8]
+    ensures { λ p. ⌜ WindowPromise (areasOf map (now (flash .entry)) (now («flash_rights» .entry)) (now (ram .entry)) (now («ram_rights» .entry)))
+        (a .0) (flash .entry) (ram .entry) p ⌝ }
+{
+    window(map, flash, flash_rights, ram, ram_rights, a)
 }

@@ -3,13 +3,17 @@ use mathlib.Core.Path.{_≡_, sym, ap, _∙_}
 use Prim.Native.Nat.{ℕ, _/_, min}
 use native.Mathlib.Omega.{arith}
 use borrow.Author.Needs.{needs}
-use Rattle.ground.specs.Lists.{bytesAt}
+use Rattle.ground.specs.Lists.{bytesAt, EachBelow}
 use Rattle.lanes.specs.Lanes.{shownOf}
 use Rattle.lanes.specs.Said.{There}
 use Rattle.lanes.proofs.Tests.{there-exactly}
 use Rattle.lanes.proofs.Places.{bytes, in-word, lane-fitting}
 use Rattle.lanes.proofs.show.Statement.{statement}
 use Rattle.lanes.proofs.show.Tie as tie
+
+-- every file that is lent is one of bytes
+lent : (c : tie.After-shared-slice-known) → EachBelow 256 (c .before .args .z .now)
+lent c k = omega (arith, c .shared-slice-known .given k)
 
 is-there : (c : tie.Then1) → let a = c .before .before .before .args in There (a .vl) (a .z .now) (a .register) (a .kind) (a .width) (a .lane)
 is-there c = there-exactly _ _ _ _ _ _ .0 (sym (c .before .lane-there .ensures) ∙ c .if1 .taken)
@@ -29,9 +33,13 @@ show-spec =
     (λ c κs. in-word (is-there c)) (λ c. search needs) (λ c κs. tt)
     (λ c κs.
     rw (gathered (c .before .before) _ _ (c .number .ensures .0), c .before .place .ensures)
-    (lane-fitting (is-there (c .before .before)) (λ k. omega (arith, c .before .before .before .before .shared-slice-known .given k))))
+    (lane-fitting (is-there (c .before .before)) (lent (c .before .before .before .before))))
     (λ c.
     let t = c .before .before .before in
-    rw (sym (t .before .lane-there .ensures) ∙ t .if1 .taken)
-    (rw (← c .before .before .place .ensures, ← gathered t _ _ (c .before .number .ensures .0)) (c .as-asked .ensures)))
-    (λ c. rw (sym (c .before .lane-there .ensures) ∙ c .if1 .left)))
+    record {
+      came = lent (t .before .before);
+      shown =
+          rw (sym (t .before .lane-there .ensures) ∙ t .if1 .taken)
+          (rw (← c .before .before .place .ensures, ← gathered t _ _ (c .before .number .ensures .0)) (c .as-asked .ensures));
+    })
+    (λ c. record { came = lent (c .before .before); shown = rw (sym (c .before .lane-there .ensures) ∙ c .if1 .left) }))

@@ -1,0 +1,1 @@
+"""What `.ci/statements` is made of."""
