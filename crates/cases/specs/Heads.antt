@@ -1,5 +1,6 @@
 -- docs/CASES.md, "A case": the head, field by field, and "Bad input". All numbers are little-endian.
 use Prim.Native.Nat.{ℕ, _+_, _*_, _/_, _%_, _^_}
+use mathlib.Core.Path.{_≡_}
 use mathlib.Core.Bool.{Bool, not}
 use mathlib.Core.List.{List, [], _∷_}
 use lib.Dec.{eqb, ltb}
@@ -63,3 +64,7 @@ openedOf s =
     ∷ (ltb 4 (bytesAt s 12 4) ⇒ Broken Level)
     ∷ [])
     (limited (headOf s))
+
+-- what `head` promises: what the bytes open with
+abbrev pub HeadPromise : List ℕ → Opened → Type 0
+HeadPromise s r = r ≡ openedOf s

@@ -4,7 +4,7 @@ use memory::Address;
 use memory::Map;
 use steps::Settings;
 ghost use mathlib.Core.Path.{_≡_};
-ghost use Rattle.cases.specs.Heads.{headOf, limited, openedOf};
+ghost use Rattle.cases.specs.Heads.{headOf, limited, HeadPromise};
 
 // What the head of a case says: the word and the settings, where the areas start, and how long each part is.
 pub struct Case {
@@ -108,7 +108,7 @@ fn within_limits(case: Case) -> Opened
 
 // What bytes open with: a case whose layout is here, or the first thing that is wrong.
 pub fn head(s: &[u8]) -> Opened
-    ensures { λ r. ⌜ r ≡ openedOf (now (s .entry)) ⌝ }
+    ensures { λ r. ⌜ HeadPromise (now (s .entry)) r ⌝ }
 {
     if s.len() < 4 {
         return Opened::Broken(Refusal::Ends);

@@ -8,7 +8,7 @@ use native.Mathlib.Nat.{dvd-trans, le-of-dvd, pos-of-dvd-of-pos, dvd-of-mod-eq-z
 use native.Mathlib.Omega.{arith}
 use lib.Dec.{lit<}
 use Rattle.ground.proofs.Laws.{only-one}
-use Rattle.ground.specs.Sizes.{bytesOf, sizeOf}
+use Rattle.ground.specs.Sizes.{bytesOf, sizeOf, BytesPromise, SizePromise}
 use Rattle.ground.specs.declared.Size.{Size}
 use Rattle.ground.specs.declared.Size.the-variants.{B8, B16, B32, B64}
 
@@ -21,10 +21,10 @@ field-bytes (suc (suc zero)) h = refl
 field-bytes (suc (suc (suc zero))) h = refl
 field-bytes (suc (suc (suc (suc n)))) h = absurd (omega arith)
 
-pub bytes-unique : (s : Size) (a b : ℕ) → a ≡ bytesOf s → b ≡ bytesOf s → a ≡ b
+pub bytes-unique : (s : Size) (a b : ℕ) → BytesPromise s a → BytesPromise s b → a ≡ b
 bytes-unique s a b p q = only-one p q
 
-pub of-unique : (n : ℕ) (s t : Size) → s ≡ sizeOf n → t ≡ sizeOf n → s ≡ t
+pub of-unique : (n : ℕ) (s t : Size) → SizePromise n s → SizePromise n t → s ≡ t
 of-unique n s t p q = only-one p q
 
 -- lane k of n bytes that are cut into lanes of w bytes, and of a register of vl bits

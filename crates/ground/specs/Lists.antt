@@ -1,8 +1,9 @@
--- Lists made of a function of the index, and what holds below a number.
-use Prim.Native.Nat.{ℕ, zero, suc, _+_, _*_, _<_}
+-- Lists made of a function of the index, what holds below a number, and numbers as bytes.
+use Prim.Native.Nat.{ℕ, zero, suc, _+_, _*_, _/_, _%_, _^_, _<_, min}
+use mathlib.Core.Path.{_≡_}
 use mathlib.Core.Bool.{Bool, false, _||_}
 use mathlib.Core.List.{List, [], _∷_, _++_}
-use lib.ListN.{getD, take, drop}
+use lib.ListN.{length, getD, take, drop}
 use Rattle.ground.specs.Choices.{if_then_else_}
 
 -- f i, f (i + 1) and on, n of them
@@ -32,6 +33,14 @@ bytesAt s at n = little (λ j. getD s (at + j) 0) 0 n
 -- every number of a list is below n; one that is not there counts as 0
 abbrev pub EachBelow : ℕ → List ℕ → Type 0
 EachBelow n s = (k : ℕ) → getD s k 0 < n
+
+-- what `number` promises: the number that n bytes make, of the first eight where n is more, and that it has no more bits than these
+abbrev pub NumberPromise : List ℕ → ℕ → ℕ → ℕ → Type 0
+NumberPromise s at n r = (r ≡ bytesAt s at (min n 8)) × (r < 2 ^ (8 * min n 8))
+
+-- what `put` promises of the bytes that it leaves: as many as were there, each a digit of v to the base 256, lowest first
+abbrev pub PutPromise : List ℕ → ℕ → List ℕ → Type 0
+PutPromise dst v left = left ≡ listed (λ j. v / 256 ^ j % 256) 0 (length dst)
 
 -- a list with n of its elements, from place a on, replaced
 unfoldable pub replaced : List ℕ → ℕ → ℕ → List ℕ → List ℕ

@@ -3,8 +3,7 @@ mod numbers;
 
 pub use numbers::number;
 pub use numbers::put;
-ghost use mathlib.Core.Path.{_≡_};
-ghost use Rattle.ground.specs.Sizes.{bytesOf, sizeOf};
+ghost use Rattle.ground.specs.Sizes.{BytesPromise, SizePromise};
 
 // A size by its bits, as the scope of work writes them.
 pub enum Size {
@@ -16,7 +15,7 @@ pub enum Size {
 
 impl Size {
     pub fn bytes(self) -> u64
-        ensures { λ r. ⌜ r ≡ bytesOf self ⌝ }
+        ensures { λ r. ⌜ BytesPromise self r ⌝ }
     {
         match self {
             Size::B8 => 1,
@@ -28,7 +27,7 @@ impl Size {
 
     // The size that a field of two bits names: 8 << field bits. A field has no other number; a larger one is read as 3.
     pub fn of(field: u32) -> Size
-        ensures { λ r. ⌜ r ≡ sizeOf field ⌝ }
+        ensures { λ r. ⌜ SizePromise field r ⌝ }
     {
         if field == 0 {
             return Size::B8;

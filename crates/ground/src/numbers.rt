@@ -1,8 +1,8 @@
 // A number as bytes, lowest byte first, read and written.
 ghost use mathlib.Core.Path.{_≡_};
-ghost use Prim.Native.Nat.{_+_, _*_, _/_, _%_, _^_, _<_, min};
-ghost use lib.ListN.{length, getD};
-ghost use Rattle.ground.specs.Lists.{listed, bytesAt};
+ghost use Prim.Native.Nat.{_+_, min};
+ghost use lib.ListN.{getD};
+ghost use Rattle.ground.specs.Lists.{NumberPromise, PutPromise};
 
 // A u64 has eight bytes.
 fn at_most_eight(n: usize) -> usize
@@ -25,8 +25,7 @@ fn byte_on(s: &[u8], at: usize, i: usize) -> u8
 
 // The number that n bytes make from a place on: of the first eight, where n is more, and a byte that is not there is 0.
 pub fn number(s: &[u8], at: usize, n: usize) -> u64
-    ensures { λ r. ⌜ r ≡ bytesAt (now (s .entry)) at (min n 8) ⌝ }
-    ensures { λ r. ⌜ r < 2 ^ (8 * min n 8) ⌝ }
+    ensures { λ r. ⌜ NumberPromise (now (s .entry)) at n r ⌝ }
 {
     let end = at_most_eight(n);
     let mut value: u64 = 0;
@@ -40,7 +39,7 @@ pub fn number(s: &[u8], at: usize, n: usize) -> u64
 
 // Writes a number over bytes: as many of its digits to the base 256 as there are bytes.
 pub fn put(dst: &mut [u8], v: u64)
-    ensures { λ _. ⌜ now (dst .exit) ≡ listed (λ j. v / 256 ^ j % 256) 0 (length (now (dst .entry))) ⌝ }
+    ensures { λ _. ⌜ PutPromise (now (dst .entry)) v (now (dst .exit)) ⌝ }
 {
     let n = dst.len();
     let mut rest = v;

@@ -5,6 +5,7 @@ pub mod Turns
 pub mod Moves
 pub mod Looks
 pub mod Alike
+pub mod Pairs
 pub mod Elements
 pub mod Accepts
 pub mod Windows

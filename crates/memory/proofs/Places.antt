@@ -11,7 +11,7 @@ use Rattle.ground.specs.Choices.{if_then_else_}
 use Rattle.ground.proofs.Laws.{if-cases, true-or-false, never}
 use Rattle.memory.specs.declared.Place.{Place}
 use Rattle.memory.specs.declared.Place.the-variants.{Flash, Ram, Nowhere}
-use Rattle.memory.specs.Areas.{Area, covers, placeOf}
+use Rattle.memory.specs.Areas.{Area, Areas, covers, placeOf, placeIn}
 use Rattle.memory.specs.Said.{Holds}
 
 module _ (start n a : ℕ) where
@@ -35,6 +35,20 @@ module _ (r : Area) (a : ℕ) where
     λ e h. never (holds-exactly .1 h) e,
     λ h. ⊎-elim (λ e. absurd (h (holds-exactly .0 e))) (λ e. e) (true-or-false (covers (r .start) (length (r .bytes)) a)),
   )
+
+-- the area that holds an address is its place, flash before RAM
+module _ (m : Areas) (a : ℕ) where
+  pub place-flash : Holds (m .flash) a → placeIn m a ≡ Flash (a - m .flash .start)
+  unfolding placeOf
+  place-flash h = rw (holds-exactly (m .flash) a .1 h)
+
+  pub place-ram : (Holds (m .flash) a → ⊥) → Holds (m .ram) a → placeIn m a ≡ Ram (a - m .ram .start)
+  unfolding placeOf
+  place-ram f h = rw (holds-not (m .flash) a .1 f, holds-exactly (m .ram) a .1 h)
+
+  pub place-nowhere : (Holds (m .flash) a → ⊥) → (Holds (m .ram) a → ⊥) → placeIn m a ≡ Nowhere
+  unfolding placeOf
+  place-nowhere f h = rw (holds-not (m .flash) a .1 f, holds-not (m .ram) a .1 h)
 
 -- a place, between an area of fn bytes and one of rn
 abbrev pub PlaceWithin : ℕ → ℕ → Place → Type 0

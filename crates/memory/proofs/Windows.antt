@@ -11,10 +11,10 @@ use denote.Ref.{RefT}
 use Rattle.ground.proofs.Laws.{true-or-false}
 use Rattle.memory.specs.declared.Place.{Place}
 use Rattle.memory.specs.declared.Place.the-variants.{Flash, Ram, Nowhere}
-use Rattle.memory.specs.Areas.{Area, Areas, areAreasAccepted, placeOf, placeIn}
+use Rattle.memory.specs.Areas.{Area, Areas, areAreasAccepted, placeIn}
 use Rattle.memory.specs.Windows.{PartOf, Shows, shownPlace, WindowPromise}
 use Rattle.memory.specs.Said.{Holds, AreasAccepted, OneOf, in-flash, in-ram}
-use Rattle.memory.proofs.Places.{holds-exactly, holds-not, PlaceWithin, place-within}
+use Rattle.memory.proofs.Places.{place-flash, place-ram, place-nowhere, PlaceWithin, place-within}
 use Rattle.memory.proofs.Accepts.{areas-exactly}
 
 module _ (m : Areas) (a : ℕ) where
@@ -42,20 +42,13 @@ sliceOf in-ram flash ram = ram
 module _ (m : Areas) (a : ℕ) (flash ram p : RefT (List ℕ)) (w : WindowPromise m a flash ram p) where
   -- the area that holds the address, once for flash and RAM
   pub shows-rest : AreasAccepted m → {r : Area} (o : OneOf m r) → Holds r a → PartOf (sliceOf o flash ram) p (a - r .start) (length (sliceOf o flash ram .now))
-  unfolding placeOf
-  shows-rest t in-flash h =
-      let e : placeIn m a ≡ Flash (a - m .flash .start) = rw (holds-exactly (m .flash) a .1 h) in
-      rw (shown-accepted m a (areas-exactly m .1 t), e) at w
-  shows-rest t in-ram h =
-      let e : placeIn m a ≡ Ram (a - m .ram .start) = rw (holds-not (m .flash) a .1 (λ k. t .share-none a k h), holds-exactly (m .ram) a .1 h) in
-      rw (shown-accepted m a (areas-exactly m .1 t), e) at w
+  shows-rest t in-flash h = rw (shown-accepted m a (areas-exactly m .1 t), place-flash m a h) at w
+  shows-rest t in-ram h = rw (shown-accepted m a (areas-exactly m .1 t), place-ram m a (λ k. t .share-none a k h) h) at w
 
   -- no such byte: an empty part, of flash
   pub shows-none : (Holds (m .flash) a → ⊥) → (Holds (m .ram) a → ⊥) → PartOf flash p 0 0
-  unfolding placeOf
   shows-none f r =
-      let e : placeIn m a ≡ Nowhere = rw (holds-not (m .flash) a .1 f, holds-not (m .ram) a .1 r) in
-      ⊎-elim (λ t. rw (shown-accepted m a t, e) at w) (λ t. rw (shown-refused m a t) at w) (true-or-false (areAreasAccepted m))
+      ⊎-elim (λ t. rw (shown-accepted m a t, place-nowhere m a f r) at w) (λ t. rw (shown-refused m a t) at w) (true-or-false (areAreasAccepted m))
 
   -- areas that are not accepted: an empty part, of flash
   pub shows-none-refused : (AreasAccepted m → ⊥) → PartOf flash p 0 0

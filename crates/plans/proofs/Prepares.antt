@@ -24,9 +24,9 @@ use Rattle.steps.specs.declared.Plan.{Plan}
 use Rattle.steps.specs.declared.Planned.{Planned}
 use Rattle.steps.specs.declared.Planned.the-variants.{Stop, Go}
 use Rattle.steps.proofs.Plans.{plan-in-range}
-use Rattle.plans.specs.Prepares.{plannedFor}
+use Rattle.plans.specs.Prepares.{plannedFor, PreparePromise}
 
-pub prepare-unique : (s : Settings) (x : List ℕ) (w : ℕ) (q r : Planned) → q ≡ plannedFor s x w → r ≡ plannedFor s x w → q ≡ r
+pub prepare-unique : (s : Settings) (x : List ℕ) (w : ℕ) (q r : Planned) → PreparePromise s x w q → PreparePromise s x w r → q ≡ r
 prepare-unique s x w q r e h = only-one e h
 
 pub allowed-planned : (s : Settings) (x : List ℕ) (w : ℕ) → isLengthAllowed (s .vl) ≡ true → plannedFor s x w ≡ plannedOf s x w

@@ -12,7 +12,7 @@ ghost use mathlib.Core.Bool.{not};
 ghost use Prim.Native.Nat.{_≤_};
 ghost use Rattle.words.specs.Ranges.{InsnInRange};
 ghost use Rattle.steps.specs.Step.{isWide, switchedOn, plannedLoad, plannedOf};
-ghost use Rattle.plans.specs.Prepares.{plannedFor};
+ghost use Rattle.plans.specs.Prepares.{PreparePromise};
 
 // Whether a load is LD1RO.
 fn is_wide(shape: Shape) -> bool
@@ -73,7 +73,7 @@ fn plan_word(settings: Settings, x: &[u64], word: u32) -> Planned
 
 // What a word is about to do, for any settings and any scalars: where the vector length is not allowed, 1.
 pub fn prepare(settings: Settings, x: &[u64], word: u32) -> Planned
-    ensures { λ r. ⌜ r ≡ plannedFor settings (now (x .entry)) word ⌝ }
+    ensures { λ r. ⌜ PreparePromise settings (now (x .entry)) word r ⌝ }
 {
     if steps::allowed(settings.vl) {
         return plan_word(settings, x, word);

@@ -4,11 +4,22 @@ mod tally;
 
 use cases::Answered;
 use cases::Refusal;
+use libc::STDERR_FILENO;
 use libc::STDIN_FILENO;
 use tally::Tally;
+use texts::Text;
 
 // What a line on standard error begins with.
 const STEP: [u8; 11] = *b"qemu: step ";
+
+// Writes a line on standard error.
+fn tell(line: Text) {
+    let bytes: &[u8] = &line.bytes;
+    let n = line.n;
+    if n <= bytes.len() {
+        io::write_all(STDERR_FILENO, &bytes[0..n]);
+    }
+}
 
 // What became of a recorded step: so many bytes of it, its answer, and whether the outcome here is the recorded one.
 enum Seen {
@@ -77,9 +88,13 @@ fn turn(so_far: Progress, stream: &mut [u8], out: &mut [u8]) -> Progress {
                 going: true,
             };
         }
-        Seen::Refused(why) => telling::refused(&STEP, number, why),
-        Seen::NoOutcome => telling::say(&STEP, number, b"the recorded outcome is cut short"),
-        Seen::Unread => telling::say(&STEP, number, b"standard input is no file that can be read"),
+        Seen::Refused(why) => tell(telling::refused(&STEP, number, why)),
+        Seen::NoOutcome => tell(telling::line(&STEP, number, b"the recorded outcome is cut short")),
+        Seen::Unread => tell(telling::line(
+            &STEP,
+            number,
+            b"standard input is no file that can be read",
+        )),
         Seen::End => tally.table(),
     }
     next

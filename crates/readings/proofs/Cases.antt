@@ -28,10 +28,8 @@ pub record StarredCase : Type 0 where
 abbrev pub expected : StarredCase → Outcome
 expected c = record { report = c .report; lent = c .lent; bench = record { vectors = c .vectors; scalars = c .scalars; ram = c .bench .ram } }
 
--- the step of each case of a table ends so
-abbrev pub AllStep : List StarredCase → Type 0
-AllStep [] = Unit {0}
-AllStep (c ∷ cs) = (stepOf (c .lent) (c .word) (c .bench) ≡ expected c) × AllStep cs
+abbrev pub Ended : StarredCase → Type 0
+Ended c = stepOf (c .lent) (c .word) (c .bench) ≡ expected c
 
 -- Comparing, which can be computed: every number of an outcome, and the length of every list. Tests.antt says that what passes is equal.
 
@@ -75,10 +73,6 @@ outcomeFits c o =
 
 abbrev pub isRight : StarredCase → Bool
 isRight c = outcomeFits c (stepOf (c .lent) (c .word) (c .bench))
-
-abbrev pub allRight : List StarredCase → Bool
-allRight [] = true
-allRight (c ∷ cs) = isRight c && allRight cs
 
 -- Files: register r of the old vector file is 160 + r in every byte, so that a register in another's place shows.
 

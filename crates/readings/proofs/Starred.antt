@@ -16,9 +16,10 @@ use Rattle.steps.specs.Plans.{spreadOf}
 use Rattle.steps.specs.Lanes.{governingBytes, bitOf, isActive, wanted, asked, laneTakes, checksStack, elementAt}
 use Rattle.steps.specs.Outcomes.{answersIn, surveyOf, extended, laneValue, registerByte, registerOf, baseAfter, scalarsAfter, benchAfter, outcomeOf}
 use Rattle.steps.specs.Step.{stackFails, refusals, plannedLoad, plannedOf, preparedOf, stepOf}
-use Rattle.readings.proofs.Cases.{StarredCase, AllStep, allActive, noneActive, only, _≔_, sp, pc, zoneWith, empty, page, allOn}
+use Rattle.readings.proofs.Cases.{StarredCase, Ended, isRight, allActive, noneActive, only, _≔_, sp, pc, zoneWith, empty, page, allOn}
 use Rattle.readings.proofs.Cases.{sveOff, simdOff, f64mmAndSveOff, setUpWith, ran, faults, refuses, rising, eight, zeros, nines, copies, plain}
-use Rattle.readings.proofs.Tests.{all-step}
+use Rattle.readings.proofs.Tests.{ended}
+use Rattle.readings.proofs.Tables.{EachOf, each-of}
 
 -- the starred rows, in the order of the scope of work
 abbrev starred : List StarredCase
@@ -109,8 +110,8 @@ ours =
 abbrev pub table : List StarredCase
 table = starred ++ ours
 
-pub readings : AllStep table
+pub readings : EachOf Ended table
 unfolding replaced sizeOf dtypes dtypeOf scalarOf families readOf movedOf isAreaAccepted shareNone areAreasAccepted covers placeOf judged lookOf readingOf
     isAccepted signed4 spreadOf governingBytes bitOf isActive wanted asked laneTakes elementAt answersIn surveyOf extended laneValue registerByte registerOf
     baseAfter scalarsAfter benchAfter outcomeOf checksStack stackFails refusals plannedLoad plannedOf preparedOf stepOf
-readings = all-step table refl
+readings = each-of Ended isRight ended table refl

@@ -1,18 +1,19 @@
--- A comparison that holds says that the two are equal, so that the readings can be settled by computing it.
+-- What can be computed of a case: a comparison that holds says that the two are equal, so that the readings can be settled by computing it; and a bench
+-- whose numbers are small enough is one that can come in.
 use mathlib.Core.Path.{_≡_, refl, sym}
 use mathlib.Core.Bool.{Bool, true, false, _&&_}
 use mathlib.Core.List.{List, [], _∷_}
-use Prim.Native.Nat.{ℕ}
-use lib.Dec.{eqb}
-use borrow.Author.Tests.{eqb-true, not-true}
-use Rattle.ground.proofs.Laws.{never, and-left, and-right}
+use Prim.Native.Nat.{ℕ, _^_}
+use lib.Dec.{eqb, ltb}
+use borrow.Author.Tests.{eqb-true, ltb-true, not-true}
+use Rattle.ground.specs.Choices.{allOf}
+use Rattle.ground.proofs.Laws.{never, and-left, and-right, all, all-of, each-below}
 use Rattle.memory.specs.declared.Map.{Map}
 use Rattle.steps.specs.Answers.{Report}
-use Rattle.steps.specs.Benches.{Lent}
+use Rattle.steps.specs.Benches.{Lent, Bench, InTypes}
 use Rattle.steps.specs.Outcomes.{Outcome}
 use Rattle.steps.specs.declared.Settings.{Settings}
-use Rattle.readings.proofs.Cases.{StarredCase, expected, AllStep, sameNumbers, sameBool, sameReport, sameSettings, sameMap, sameLent, outcomeFits}
-use Rattle.readings.proofs.Cases.{isRight, allRight}
+use Rattle.readings.proofs.Cases.{StarredCase, expected, Ended, sameNumbers, sameBool, sameReport, sameSettings, sameMap, sameLent, outcomeFits, isRight}
 
 -- what the tests of a conjunction say
 ruleset met = (eqb-true, and-left, and-right)
@@ -23,7 +24,7 @@ numbers [] (y ∷ ys) h = never h refl
 numbers (x ∷ xs) [] h = never h refl
 numbers (x ∷ xs) (y ∷ ys) h = λ i. eqb-true x y (and-left (eqb x y) _ h) i ∷ numbers xs ys (and-right (eqb x y) _ h) i
 
-switches : (a b : Bool) → sameBool a b ≡ true → a ≡ b
+pub switches : (a b : Bool) → sameBool a b ≡ true → a ≡ b
 switches true b h = sym h
 switches false b h = sym (not-true b h)
 
@@ -68,7 +69,35 @@ fits c o h =
     let l : o .lent ≡ c .lent = search (lents, met) in
     λ i. record { report = r i; lent = l i; bench = record { vectors = z i; scalars = x i; ram = m i } }
 
--- a table of which the test holds: each of its steps ends as it is expected to
-pub all-step : (cs : List StarredCase) → allRight cs ≡ true → AllStep cs
-all-step [] h = tt
-all-step (c ∷ cs) h = (fits c _ (and-left (isRight c) _ h), all-step cs (and-right (isRight c) _ h))
+pub ended : (c : StarredCase) → isRight c ≡ true → Ended c
+ended c h = fits c _ h
+
+abbrev areBelow : ℕ → List ℕ → Bool
+areBelow n s = all (λ v. ltb v n) s
+
+-- what comes in is what its types hold
+abbrev pub typeTests : Lent → ℕ → Bench → List Bool
+typeTests l w b =
+    ltb w (2 ^ 32)
+    ∷ areBelow 256 (b .vectors)
+    ∷ areBelow 256 (l .predicates)
+    ∷ areBelow (2 ^ 64) (b .scalars)
+    ∷ areBelow 256 (l .flash)
+    ∷ areBelow 256 (l .flashRights)
+    ∷ areBelow 256 (b .ram)
+    ∷ areBelow 256 (l .ramRights)
+    ∷ []
+
+pub in-types : (l : Lent) (w : ℕ) (b : Bench) → allOf (typeTests l w b) ≡ true → InTypes l w b
+in-types l w b h =
+    let t = all-of (typeTests l w b) h in
+    record {
+      word = ltb-true w (2 ^ 32) (t 0);
+      vectors = each-below 256 (b .vectors) refl (t 1);
+      predicates = each-below 256 (l .predicates) refl (t 2);
+      scalars = each-below (2 ^ 64) (b .scalars) refl (t 3);
+      flash = each-below 256 (l .flash) refl (t 4);
+      flashRights = each-below 256 (l .flashRights) refl (t 5);
+      ram = each-below 256 (b .ram) refl (t 6);
+      ramRights = each-below 256 (l .ramRights) refl (t 7);
+    }

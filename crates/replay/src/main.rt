@@ -1,11 +1,22 @@
 // Cases in, outcomes out, in the format of docs/CASES.md: all that matters is `cases::answer`; here it is only read and written.
 use cases::Answered;
 use cases::Opened;
+use libc::STDERR_FILENO;
 use libc::STDIN_FILENO;
 use libc::STDOUT_FILENO;
+use texts::Text;
 
 // What a line on standard error begins with.
 const CASE: [u8; 13] = *b"replay: case ";
+
+// Writes a line on standard error.
+fn tell(line: Text) {
+    let bytes: &[u8] = &line.bytes;
+    let n = line.n;
+    if n <= bytes.len() {
+        io::write_all(STDERR_FILENO, &bytes[0..n]);
+    }
+}
 
 // Reads into a part of the buffer until it is full or the input ends, and answers how many bytes came.
 fn read_part(stream: &mut [u8], from: usize, to: usize) -> usize {
@@ -24,7 +35,7 @@ fn read_head(number: u64, stream: &mut [u8]) -> usize {
     }
     let got = libc::read(STDIN_FILENO, &mut stream[0..96]);
     if got < 0 {
-        telling::say(&CASE, number, b"standard input cannot be read");
+        tell(telling::line(&CASE, number, b"standard input cannot be read"));
         return 0;
     }
     let n = io::count(got, stream);
@@ -41,7 +52,7 @@ fn write_outcome(number: u64, out: &[u8], given: usize) -> bool {
             return true;
         }
     }
-    telling::say(&CASE, number, b"standard output cannot be written");
+    tell(telling::line(&CASE, number, b"standard output cannot be written"));
     false
 }
 
@@ -50,7 +61,7 @@ fn answered(number: u64, stream: &[u8], n: usize, out: &mut [u8]) -> bool {
     if n <= stream.len() {
         match cases::answer(&stream[0..n], out) {
             Answered::Written(_, given) => return write_outcome(number, out, given),
-            Answered::Not(why) => telling::refused(&CASE, number, why),
+            Answered::Not(why) => tell(telling::refused(&CASE, number, why)),
         }
     }
     false
@@ -67,7 +78,7 @@ fn one_case(number: u64, stream: &mut [u8], out: &mut [u8]) -> bool {
     }
     match cases::head(&stream[0..got]) {
         Opened::Broken(why) => {
-            telling::refused(&CASE, number, why);
+            tell(telling::refused(&CASE, number, why));
             false
         }
         Opened::Begins(_, whole) => {

@@ -12,7 +12,6 @@ use Rattle.ground.specs.Sizes.{bytesOf}
 use Rattle.words.specs.Families.{readOf}
 use Rattle.words.proofs.Decodes.{insn-means}
 use Rattle.steps.specs.Insns.{Insn, Decoded, Outside, Undefined, Is}
-use Rattle.memory.specs.Addresses.{plusOf}
 use Rattle.memory.specs.Areas.{Areas}
 use Rattle.memory.specs.Bytes.{lookOf}
 use Rattle.memory.specs.Said.{SamePlaces}
@@ -28,18 +27,17 @@ use Rattle.steps.specs.Outcomes.{Outcome, answersIn, answersOf, surveyOf
 use Rattle.steps.specs.Step.{Prepared, Stop, Go, plannedBy, plannedOf, atStack, preparedOf, carriedOut, stepOf}
 use Rattle.steps.specs.Said.{Accepted}
 use Rattle.steps.specs.Demand1.{Ready}
-use Rattle.steps.specs.Demand3.{Same, Touched, SameRights, SameBytes}
+use Rattle.steps.specs.Demand3.{Same, SameRights, SameBytes}
 use Rattle.steps.specs.declared.Settings.{Settings}
 use Rattle.steps.specs.declared.Plan.{Plan}
 use Rattle.steps.specs.declared.Planned.{Planned}
 use Rattle.steps.specs.declared.Planned.the-variants as P
-use Rattle.steps.proofs.Places.{byte-lies}
-use Rattle.steps.proofs.Actives.{active-exactly}
 use Rattle.steps.proofs.Accepts.{accepted-exactly}
 use Rattle.steps.proofs.Faults.{below-all}
 use Rattle.steps.proofs.Plans.{plan-in-range}
 use Rattle.steps.proofs.Depends.{same-survey, same-register}
 use Rattle.steps.proofs.Gives.{ways}
+use Rattle.steps.proofs.Touches.{touched-by}
 use Rattle.steps.proofs.Runs.{in-range-of}
 
 module _ (l : Lent) (b : Bench) (l′ : Lent) (b′ : Bench) (accepted : Accepted l b) (accepted′ : Accepted l′ b′) (same : Same l b l′ b′) where
@@ -83,22 +81,17 @@ module _ (l : Lent) (b : Bench) (l′ : Lent) (b′ : Bench) (accepted : Accepte
     abbrev Wanted : ℕ → Type 0
     Wanted e = (e < p .elements) × (wanted p (governingBytes l p) e ≡ true)
 
-    touched : (e k : ℕ) → Wanted e → k < bytesOf (p .size) → Touched l w b (plusOf (elementAt p e) k)
-    touched e k h q =
-        let a = active-exactly l (b .scalars) (accepted .allowed) i (i .shape) (ready .defined .long) e .0 h in
-        record { load = i; ready = ready; element = e; active = a; byte = k; within = q; lies = byte-lies l (b .scalars) i e k a }
-
     same-troubles : (e : ℕ) → Wanted e → troubleOf (answersOf l b p e) ≡ troubleOf (answersOf l′ b′ p e)
     unfolding answersIn
     same-troubles e h =
         reading-bad-cong (lookOf s) (lookOf s′) (elementAt p e) (bytesOf (p .size)) (below-all p e)
-        (λ k q. same-trouble s s′ (accepted .areas) (accepted′ .areas) places _ (rights _ (touched e k h q)) _)
+        (λ k q. same-trouble s s′ (accepted .areas) (accepted′ .areas) places _ (rights _ (touched-by l w b i ready e k h q)) _)
 
     same-answers : SameBytes l w b l′ b′ → (e : ℕ) → Wanted e → answersOf l b p e ≡ answersOf l′ b′ p e
     unfolding answersIn
     same-answers bytes e h =
         reading-cong (lookOf s) (lookOf s′) (elementAt p e) (bytesOf (p .size)) (below-all p e)
-        (λ k q. same-look s s′ (accepted .areas) (accepted′ .areas) places _ (rights _ (touched e k h q)) (bytes _ (touched e k h q)))
+        (λ k q. let t = touched-by l w b i ready e k h q in same-look s s′ (accepted .areas) (accepted′ .areas) places _ (rights _ t) (bytes _ t))
 
     surveys : surveyOf (answersOf l b p) p (governingBytes l p) ≡ surveyOf (answersOf l′ b′ p) p (governingBytes l′ p)
     surveys =

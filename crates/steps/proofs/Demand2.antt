@@ -85,7 +85,7 @@ module _ (l : Lent) (x : List ℕ) (i : Insn) where
   ld1r q back h = own 0 h (at-first (scalar x (i .base)) 0 (bytesOf (i .element .memory)) refl)
 
 -- what the definition leaves of such a load
-leaves : (l : Lent) (w : ℕ) (b : Bench) (i : Insn) → Ready l w b i → AllReadable l b i → Leaves l b i (stepOf l w b .lent) (stepOf l w b .bench)
+pub leaves : (l : Lent) (w : ℕ) (b : Bench) (i : Insn) → Ready l w b i → AllReadable l b i → Leaves l b i (stepOf l w b .lent) (stepOf l w b .bench)
 leaves l w b i r a = subst₂ (Leaves l b i) (sym (lent-kept l w b)) (sym (ran-bench l w b i r a)) (ran-leaves l w b i r a)
 
 -- Of any result r, and any bench left, that meet the promise of a step:

@@ -4,6 +4,9 @@
 -- memory is not looked at" by demand 3: rights and bytes may differ wherever no active element lies, and nothing that a step tells or
 -- leaves does. A constant step would meet demand 3's first half alone; it is stated here of any two outcomes that meet the promise of a
 -- step, and those are what demands 1 and 2 say, so a constant does not meet it.
+--
+-- Nor can its premise grow: `touched-exactly`, `same-exactly`, `rights-exactly` and `bytes-exactly` of Touches say that it asks for agreement at the bytes
+-- that the definition asks for, and for nothing else; and `premise-exactly` of Needs, that where a step runs it is what the promise takes.
 use mathlib.Core.Path.{_≡_, sym, ap, subst₂, _∙_}
 use mathlib.Core.Bool.{true}
 use mathlib.Core.List.{List}

@@ -54,16 +54,16 @@ module _ (l : Lent) (w : ℕ) (b : Bench) (i : Insn) (ready : Ready l w b i) (al
   octets in-ram = came .ram
 
   -- the bytes of an active element
-  abbrev byte : ℕ → ℕ → ℕ
+  abbrev pub byte : ℕ → ℕ → ℕ
   byte e j = byteFound (lookOf (areasIn l b) (byteAt l (b .scalars) i e j))
 
-  contains : (e : ℕ) → Active l i e → (j : ℕ) → j < m i → Contains (areasIn l b) (byteAt l (b .scalars) i e j) (byte e j)
+  pub contains : (e : ℕ) → Active l i e → (j : ℕ) → j < m i → Contains (areasIn l b) (byteAt l (b .scalars) i e j) (byte e j)
   contains e q j h =
       let c = all e q j h in
       let v = ap byteFound (right-byte (areasIn l b) (ready .defined .accepted .areas) _ (c .1) (c .2) (c .3)) in
       (c .0, c .1, c .2, v, rw v (octets (c .1) _))
 
-  value : (e : ℕ) → Active l i e → ElementValue l b i e (little (byte e) 0 (m i))
+  pub value : (e : ℕ) → Active l i e → ElementValue l b i e (little (byte e) 0 (m i))
   value e q = record { byte = byte e; contained = contains e q; value = refl }
 
   -- the base, where it is written back

@@ -162,12 +162,14 @@ module _ (l : Lent) (w : ℕ) (b : Bench) where
       → of-load i ≡ (if t then Stop (refusalReport 5) else Go (plan i))
   at-stack i d t h = defined i d ∙ rw h
 
-  pub ready-goes : (i : Insn) (r : Ready l w b i) → stepOf l w b ≡ carriedOut l b (Go (plan i))
-  ready-goes i r =
+  pub ready-plan : (i : Insn) → Ready l w b i → of-load i ≡ Go (plan i)
+  ready-plan i r =
       let d = r .defined in
-      let f = off (stackFails (b .scalars) (plan i) (governingBytes l (plan i)))
-      (λ t. let s = stack-exactly l b (d .accepted) i (d .long) .0 t in s .2 (r .stack (s .0) (s .1))) in
-      evaluated (Is i) (d .accepted) (means-read w (Is i) (d .reads)) ∙ ap (carriedOut l b) (at-stack i d false f)
+      at-stack i d false (off (stackFails (b .scalars) (plan i) (governingBytes l (plan i)))
+      (λ t. let s = stack-exactly l b (d .accepted) i (d .long) .0 t in s .2 (r .stack (s .0) (s .1))))
+
+  pub ready-goes : (i : Insn) (r : Ready l w b i) → stepOf l w b ≡ carriedOut l b (Go (plan i))
+  ready-goes i r = evaluated (Is i) (r .defined .accepted) (means-read w (Is i) (r .defined .reads)) ∙ ap (carriedOut l b) (ready-plan i r)
 
   told-by : (o : Outcome) (r : Report) → stepOf l w b ≡ o → o .report ≡ r → stepOf l w b .report ≡ r
   told-by o r e h = ap (λ (v : Outcome). v .report) e ∙ h

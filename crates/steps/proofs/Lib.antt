@@ -15,10 +15,13 @@ pub mod Keeps
 pub mod Results
 pub mod Runs
 pub mod Determined
+pub mod Touches
 pub mod Agrees
 pub mod Unique
 pub mod Numbers
+pub mod Terms
 pub mod Promise
 pub mod Demand1
 pub mod Demand2
 pub mod Demand3
+pub mod Needs

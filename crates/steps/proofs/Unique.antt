@@ -9,8 +9,9 @@ use Rattle.ground.proofs.Laws.{only-one}
 use Rattle.memory.specs.declared.Address.{Address}
 use Rattle.memory.specs.declared.Fault.the-variants.{Nowhere, Denied}
 use Rattle.memory.proofs.Unique.{address-unique as same-address}
-use Rattle.steps.specs.Benches.{isLengthAllowed}
+use Rattle.steps.specs.Benches.{AllowedPromise}
 use Rattle.steps.specs.Answers.{numberOf, elementOf, addressOf, Report, reportWith, reportOf}
+use Rattle.steps.specs.Answers.{AnswerNumberPromise, AnswerElementPromise, AnswerAddressPromise}
 use Rattle.steps.specs.declared.StepResult.{StepResult}
 use Rattle.steps.specs.declared.Answer.{Answer}
 use Rattle.steps.specs.declared.Answer.the-variants.{Ran, SetUp, Outside, Undefined, SwitchedOff, Stack, Faulted}
@@ -51,15 +52,15 @@ pub answers-told : (n : ℕ) (a : Address) (e : ℕ)
     (a .0) ∷ reportWith 7 n e (a .0) ∷ []
 answers-told n a e = refl
 
-pub allowed-unique : (vl : ℕ) (r s : Bool) → r ≡ isLengthAllowed vl → s ≡ isLengthAllowed vl → r ≡ s
+pub allowed-unique : (vl : ℕ) (r s : Bool) → AllowedPromise vl r → AllowedPromise vl s → r ≡ s
 allowed-unique vl r s p q = only-one p q
 
 module _ (a : Answer) where
-  pub number-unique : (m n : ℕ) → m ≡ numberOf a → n ≡ numberOf a → m ≡ n
+  pub number-unique : (m n : ℕ) → AnswerNumberPromise a m → AnswerNumberPromise a n → m ≡ n
   number-unique m n p q = only-one p q
 
-  pub element-unique : (m n : ℕ) → m ≡ elementOf a → n ≡ elementOf a → m ≡ n
+  pub element-unique : (m n : ℕ) → AnswerElementPromise a m → AnswerElementPromise a n → m ≡ n
   element-unique m n p q = only-one p q
 
-  pub address-unique : (x y : Address) → x .0 ≡ addressOf a → y .0 ≡ addressOf a → x ≡ y
+  pub address-unique : (x y : Address) → AnswerAddressPromise a x → AnswerAddressPromise a y → x ≡ y
   address-unique x y p q = same-address x y p q

@@ -1,6 +1,8 @@
 -- "When the bench says no": the numbers of the scope of work, for each case of the answer.
 use Prim.Native.Nat.{ℕ}
+use mathlib.Core.Path.{_≡_}
 use Rattle.steps.specs.declared.Answer.{Answer}
+use Rattle.memory.specs.declared.Address.{Address}
 use Rattle.memory.specs.declared.Fault.{Fault}
 use Rattle.memory.specs.declared.Fault.the-variants.{Nowhere, Denied}
 use Rattle.steps.specs.declared.Answer.the-variants.{Ran, SetUp, Outside, Undefined, SwitchedOff, Stack, Faulted}
@@ -38,6 +40,18 @@ addressOf Undefined = 0
 addressOf SwitchedOff = 0
 addressOf Stack = 0
 addressOf (Faulted f a e) = a .0
+
+-- what `Answer::number` promises: the answer's number
+abbrev pub AnswerNumberPromise : Answer → ℕ → Type 0
+AnswerNumberPromise a r = r ≡ numberOf a
+
+-- what `Answer::element` promises: the element that the answer carries
+abbrev pub AnswerElementPromise : Answer → ℕ → Type 0
+AnswerElementPromise a r = r ≡ elementOf a
+
+-- what `Answer::address` promises: the address that the answer carries
+abbrev pub AnswerAddressPromise : Answer → Address → Type 0
+AnswerAddressPromise a r = r .0 ≡ addressOf a
 
 -- what a step tells, in those numbers
 pub record Report : Type 0 where

@@ -1,5 +1,6 @@
 -- "The lent bench", and which set-ups are accepted.
 use Prim.Native.Nat.{ℕ, _*_, _/_, _%_, _^_, _<_}
+use mathlib.Core.Path.{_≡_}
 use mathlib.Core.Bool.{Bool}
 use mathlib.Core.List.{List, [], _∷_}
 use lib.Dec.{leb, eqb}
@@ -46,6 +47,10 @@ lengthTests vl = eqb (vl % 128) 0 ∷ leb 128 vl ∷ leb vl 2048 ∷ []
 
 abbrev pub isLengthAllowed : ℕ → Bool
 isLengthAllowed vl = allOf (lengthTests vl)
+
+-- what `allowed` promises: whether the vector length is allowed
+abbrev pub AllowedPromise : ℕ → Bool → Type 0
+AllowedPromise vl r = r ≡ isLengthAllowed vl
 
 -- VL, and files of z bytes, p bytes and x numbers: 32 registers of VL/8 bytes; 16 registers of VL/64 bytes; 33 numbers
 abbrev pub fileTests : ℕ → ℕ → ℕ → ℕ → List Bool

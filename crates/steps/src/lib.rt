@@ -4,8 +4,8 @@ use memory::Address;
 use memory::Fault;
 use words::Governing;
 ghost use mathlib.Core.Path.{_≡_};
-ghost use Rattle.steps.specs.Benches.{isLengthAllowed};
-ghost use Rattle.steps.specs.Answers.{faultNumber, numberOf, elementOf, addressOf};
+ghost use Rattle.steps.specs.Benches.{AllowedPromise};
+ghost use Rattle.steps.specs.Answers.{faultNumber, AnswerNumberPromise, AnswerElementPromise, AnswerAddressPromise};
 
 // The vector length in bits, and the switches.
 pub struct Settings {
@@ -17,7 +17,7 @@ pub struct Settings {
 
 // Whether a vector length is allowed.
 pub fn allowed(vl: u64) -> bool
-    ensures { λ r. ⌜ r ≡ isLengthAllowed vl ⌝ }
+    ensures { λ r. ⌜ AllowedPromise vl r ⌝ }
 {
     (vl % 128 == 0) & (128 <= vl) & (vl <= 2048)
 }
@@ -52,7 +52,7 @@ fn fault_number(fault: Fault) -> u64
 impl Answer {
     // The scope of work's number for the answer.
     pub fn number(self) -> u64
-        ensures { λ r. ⌜ r ≡ numberOf self ⌝ }
+        ensures { λ r. ⌜ AnswerNumberPromise self r ⌝ }
     {
         match self {
             Answer::Ran => 0,
@@ -67,7 +67,7 @@ impl Answer {
 
     // The element that a fault names, and 0 where there is none.
     pub fn element(self) -> u64
-        ensures { λ r. ⌜ r ≡ elementOf self ⌝ }
+        ensures { λ r. ⌜ AnswerElementPromise self r ⌝ }
     {
         match self {
             Answer::Ran => 0,
@@ -82,7 +82,7 @@ impl Answer {
 
     // The address that a fault names, and 0 where there is none.
     pub fn address(self) -> Address
-        ensures { λ r. ⌜ r .0 ≡ addressOf self ⌝ }
+        ensures { λ r. ⌜ AnswerAddressPromise self r ⌝ }
     {
         match self {
             Answer::Ran => Address(0),

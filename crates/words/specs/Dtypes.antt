@@ -1,5 +1,6 @@
 -- The dtype table of the scope of work: memory size to lane size, and whether the sign is extended.
 use Prim.Native.Nat.{ℕ}
+use mathlib.Core.Path.{_≡_}
 use mathlib.Core.Bool.{true, false}
 use mathlib.Core.List.{List, [], _∷_}
 use lib.ListN.{getD}
@@ -28,3 +29,7 @@ dtypes =
 -- a field of four bits names a row; there is no other number
 unfoldable pub dtypeOf : ℕ → Dtype
 dtypeOf d = getD dtypes d (unsignedRow B64 B64)
+
+-- what `Dtype::of` promises: the row that a field names
+abbrev pub DtypePromise : ℕ → Dtype → Type 0
+DtypePromise field r = r ≡ dtypeOf field

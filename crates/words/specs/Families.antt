@@ -1,5 +1,6 @@
 -- The family table of the scope of work: the fixed bits of each row, and what the row's fields say.
 use Prim.Native.Nat.{ℕ, _+_, _*_}
+use mathlib.Core.Path.{_≡_}
 use mathlib.Core.Bool.{Bool, true, false, _||_}
 use mathlib.Core.List.{List, [], _∷_}
 use lib.Dec.{eqb}
@@ -93,3 +94,7 @@ readBy rows w = firstOf (choices rows w) Outside
 
 unfoldable pub readOf : ℕ → Decoded
 readOf w = readBy families w
+
+-- what `read` promises: what the word is, by the table
+abbrev pub ReadPromise : ℕ → Decoded → Type 0
+ReadPromise w r = r ≡ readOf w

@@ -4,8 +4,8 @@
 use ground::Size;
 ghost use mathlib.Core.Path.{_≡_};
 ghost use mathlib.Core.Bool.{true, false};
-ghost use Rattle.words.specs.Dtypes.{plainOf, dtypeOf};
-ghost use Rattle.words.specs.Families.{replicateOf, sveOf, byElementOf, contiguousOf, blockOf, scalarOf, readOf};
+ghost use Rattle.words.specs.Dtypes.{plainOf, DtypePromise};
+ghost use Rattle.words.specs.Families.{replicateOf, sveOf, byElementOf, contiguousOf, blockOf, scalarOf, ReadPromise};
 ghost use Rattle.words.specs.Insns.{Is};
 
 // What an SVE load adds to its base: a field of four bits, signed, that counts blocks; or a scalar register.
@@ -61,7 +61,7 @@ impl Dtype {
     // The row that a field of four bits names, by the table's own rule: the upper two bits name the memory size and the lower two the lane
     // size; where the upper ones are more, the sizes are 3 - upper and 3 - lower, and the sign is extended. A field over 15 is read as 15.
     pub fn of(field: u32) -> Dtype
-        ensures { λ r. ⌜ r ≡ dtypeOf field ⌝ }
+        ensures { λ r. ⌜ DtypePromise field r ⌝ }
     {
         let high = field / 4;
         let low = field % 4;
@@ -172,7 +172,7 @@ fn scalar(word: u32, load: Decoded) -> Decoded
 
 // The family table, row by row.
 pub fn read(word: u32) -> Decoded
-    ensures { λ r. ⌜ r ≡ readOf word ⌝ }
+    ensures { λ r. ⌜ ReadPromise word r ⌝ }
 {
     let low = word / 0x8000_0000 % 2 == 0b0;
     let top = word / 0x0200_0000 % 128;

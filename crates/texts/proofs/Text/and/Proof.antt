@@ -15,7 +15,7 @@ module _ (c : tie.After-copy-arg) where
   room : let g = c .before .before .before .before .before in g .args .self .n + c .before .least .result ≤ length (g .args .self .bytes)
   room =
       let g = c .before .before .before .before .before in
-      let long : length (g .args .self .bytes) ≡ 64 = search needs in
+      let long : length (g .args .self .bytes) ≡ 128 = search needs in
       omega (arith, c .before .least .ensures, c .before .before .before .if1 .left)
 
   copied : c .before .least .result ≡ length (take (c .before .least .result) (c .before .before .before .before .before .args .s .now))

@@ -7,7 +7,7 @@ use Rattle.texts.proofs.Texts.{all-there, tells-alike}
 use Rattle.texts.proofs.Text.same.Statement.{statement}
 use Rattle.texts.proofs.Text.same.Tie as tie
 
-long : (g : tie.Start) → length (g .args .self .bytes) ≡ 64
+long : (g : tie.Start) → length (g .args .self .bytes) ≡ 128
 long g = search needs
 
 pub same-spec : {M : Type 1} → statement M

@@ -1,0 +1,2 @@
+-- What the contracts of a line are stated with.
+pub mod Lines
