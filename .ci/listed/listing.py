@@ -136,7 +136,7 @@ def kit_entries(tree, roots, definitions):
         found |= names.kit_names(names.references(tree, node))
     for key, function in public_functions(tree):
         found |= names.kit_names(names.contract_references(tree, key, function))
-    return [Entry(KIT, kit.module, kit.name) for kit in sorted(found)]
+    return [Entry(KIT, module, name) for module, name in sorted(found)]
 
 
 def entries(tree, told):

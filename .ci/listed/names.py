@@ -181,4 +181,5 @@ def contract_references(tree, key, function):
 
 
 def kit_names(found):
-    return {meaning for _, meaning in found if isinstance(meaning, Kit)}
+    """Module and name of what comes from the kit; a name with its module's short name before it, as S.[], is another word than the bare one."""
+    return {(m.module, word if "." in word else m.name) for word, m in found if isinstance(m, Kit)}

@@ -53,8 +53,8 @@ def by_short_name(tree, name):
 def known_names(tree):
     """Every name that a page may give: of declarations, constructors, fields, functions, types, variants and crates."""
     known = set(tree.crates) | set(WORDS)
-    for file in tree.files.values():
-        for made in file.declared.values():
+    for key, file in tree.files.items():
+        for made in file.declared.values() if not key.startswith("claims/") else ():
             known.add(made.name)
             known.update(constructors(made) if made.kind == "data" else ())
             known.update(t.text for part in made.parts if made.kind == "record" for t in part[:2])

@@ -100,10 +100,12 @@ def citation(made):
 
 
 def cited_in(tree, made):
-    """The theorem that an entry of claims/ cites, or none."""
+    """The public theorem that an entry of claims/ cites, or none."""
     path = citation(made)
     node = tree.member(path, made.name) if path else None
-    return node if node is not None and "/proofs/" in getattr(node, "file", "") and not node.file.startswith(CLAIMS) else None
+    if node is None or "/proofs/" not in getattr(node, "file", "") or node.file.startswith(CLAIMS):
+        return None
+    return node if "pub" in tree.files[node.file].declared[node.name].marks else None
 
 
 def claims_files(tree):

@@ -203,32 +203,32 @@ module _ (t : Witness) (h : Met t) where
   done : Done l (t .word) b (after .lent) (after .bench)
   done = demand-2-promise l _ b _ _ _ promise (demand-2-runs l _ b _ _ _ promise .1 (i, h .ready, h .readable))
 
-  pub said : Zero × Left × Counts × Done l (t .word) b (after .lent) (after .bench)
-  said = (zeroed (t .law) (h .premise), left, counts, done)
+  abbrev Said : Type 0
+  Said = Zero × Left × Counts × Done l (t .word) b (after .lent) (after .bench)
+
+pub theorems-used : (t : Witness) (h : Met t) → Said t h
+theorems-used t h = (zeroed t h (t .law) (h .premise), left t h, counts t h, done t h)
 
 -- The address formulas, each at the loads of the table that have its shape: the plan has element e where document 01 says, whatever the bench.
-module _ (l : Lent) (x : List ℕ) (e : ℕ) where
-  abbrev Lies : Insn → ℕ → Type 0
-  Lies i n = elementAt (planOf (l .settings .vl) x i) n ≡ wrapℤ (lies l x i n)
+abbrev Lies : Lent → List ℕ → Insn → ℕ → Type 0
+Lies l x i n = elementAt (planOf (l .settings .vl) x i) n ≡ wrapℤ (lies l x i n)
 
-  pub singles-lie : Lies (bytes (Replicate 1 Keep)) 0 × Lies (bytes (Replicate 0 (Post 31))) 0 × Lies (doubles (ByElement 0)) 0
-  singles-lie = (
-    ld1r l x (bytes (Replicate 1 Keep)) 1 Keep refl,
-    ld1r l x (bytes (Replicate 0 (Post 31))) 0 (Post 31) refl,
-    ld1r-by-element l x (doubles (ByElement 0)) 0 refl,
-  )
-
-  pub lanes-lie : Lies (doubles (Contiguous (Imm 0))) e × Lies (doubles (Contiguous (Reg 1))) e
-  lanes-lie = (ld1-immediate l x (doubles (Contiguous (Imm 0))) 0 refl e, ld1-scalar l x (doubles (Contiguous (Reg 1))) 1 refl e)
-
-  pub blocks-lie : Lies (doubles (Block false (Imm 0))) e × Lies (doubles (Block true (Imm 0))) e
-      × Lies (doubles (Block false (Reg 1))) e × Lies (doubles (Block true (Reg 1))) e
-  blocks-lie = (
-    ld1rq-immediate l x (doubles (Block false (Imm 0))) 0 refl e,
-    ld1ro-immediate l x (doubles (Block true (Imm 0))) 0 refl e,
-    block-scalar l x (doubles (Block false (Reg 1))) false 1 refl e,
-    block-scalar l x (doubles (Block true (Reg 1))) true 1 refl e,
-  )
+pub formulas-used : (l : Lent) (x : List ℕ) (e : ℕ)
+    → Lies l x (bytes (Replicate 1 Keep)) 0 × Lies l x (bytes (Replicate 0 (Post 31))) 0 × Lies l x (doubles (ByElement 0)) 0
+    × Lies l x (doubles (Contiguous (Imm 0))) e × Lies l x (doubles (Contiguous (Reg 1))) e
+    × Lies l x (doubles (Block false (Imm 0))) e × Lies l x (doubles (Block true (Imm 0))) e
+    × Lies l x (doubles (Block false (Reg 1))) e × Lies l x (doubles (Block true (Reg 1))) e
+formulas-used l x e = (
+  ld1r l x (bytes (Replicate 1 Keep)) 1 Keep refl,
+  ld1r l x (bytes (Replicate 0 (Post 31))) 0 (Post 31) refl,
+  ld1r-by-element l x (doubles (ByElement 0)) 0 refl,
+  ld1-immediate l x (doubles (Contiguous (Imm 0))) 0 refl e,
+  ld1-scalar l x (doubles (Contiguous (Reg 1))) 1 refl e,
+  ld1rq-immediate l x (doubles (Block false (Imm 0))) 0 refl e,
+  ld1ro-immediate l x (doubles (Block true (Imm 0))) 0 refl e,
+  block-scalar l x (doubles (Block false (Reg 1))) false 1 refl e,
+  block-scalar l x (doubles (Block true (Reg 1))) true 1 refl e,
+)
 
 -- Over any answers of memory: LD1D with lane 0 alone active asks for element 0. So it tells the same of answers that hold other values, and leaves the same
 -- of answers that differ at element 1.

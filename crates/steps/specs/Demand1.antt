@@ -25,7 +25,7 @@ pub data Counted (P : ℕ → Type 0) : ℕ → ℕ → Type 0 where
   hit : {e n : ℕ} → P e → Counted P e n → Counted P (suc e) (suc n)
   miss : {e n : ℕ} → (P e → ⊥) → Counted P e n → Counted P (suc e) n
 
--- LD1RO
+-- LD1RO. `Wide` and `On` are the definition's isWide and switchedOn as statements, clause by clause: a transcription, and no second source
 abbrev pub WideAs : Shape → Type 0
 WideAs (Replicate q back) = ⊥
 WideAs (ByElement imm6) = ⊥
@@ -35,7 +35,7 @@ WideAs (Block wide offset) = wide ≡ true
 abbrev pub Wide : Insn → Type 0
 Wide i = WideAs (i .shape)
 
--- the switch that the load needs is on: SIMD for LD1R, SVE for any other; where it is off, the answer is 4
+-- the switch that the load needs is on: "LD1R with SIMD off; any other with SVE off" earns 4
 abbrev pub OnAs : Shape → Lent → Type 0
 OnAs (Replicate q back) l = l .settings .simd ≡ true
 OnAs (ByElement imm6) l = l .settings .sve ≡ true

@@ -1,0 +1,37 @@
+-- Demand 1: any input, each answer exactly when document 01 says, and any answer but 0 changes nothing.
+use Prim.Native.Nat.{_<_, _^_, _≤_, ℕ}
+use Rattle.steps.specs.Answers.{Report, numberOf, reportOf}
+use Rattle.steps.specs.Benches.{Bench, Lent}
+use Rattle.steps.specs.Demand1.{Counted, Given, Ready}
+use Rattle.steps.specs.Said.{Active}
+use Rattle.steps.specs.Step.{StepPromise, stepOf}
+use Rattle.steps.specs.declared.StepResult.{StepResult}
+use Rattle.words.specs.declared.Insn.{Insn}
+use mathlib.Core.Logic.{_↔_}
+use mathlib.Core.Path.{_≡_}
+
+-- A step's number, count, element and address are those of a row of document 01's table exactly when the row says so.
+pub demand-1 : (l : Lent) (w : ℕ) (b : Bench) → w < 2 ^ 32 → (r : Report) → Given l w b r ↔ (stepOf l w b .report ≡ r)
+demand-1 = Rattle.steps.proofs.Demand1.demand-1
+
+-- Exactly one row is given.
+pub demand-1-one : (l : Lent) (w : ℕ) (b : Bench) → w < 2 ^ 32 → (r : Report) × Given l w b r × ((q : Report) → Given l w b q → q ≡ r)
+demand-1-one = Rattle.steps.proofs.Demand1.demand-1-one
+
+-- Any answer but 0 leaves the whole bench as it was.
+pub demand-1-kept : (l : Lent) (w : ℕ) (b : Bench) → (stepOf l w b .report .number ≡ 0 → ⊥) → (stepOf l w b .lent ≡ l) × (stepOf l w b .bench ≡ b)
+demand-1-kept = Rattle.steps.proofs.Demand1.demand-1-kept
+
+-- The same of any outcome that meets the promise, whatever came in: its numbers are those of the row that is given, and of no other.
+pub demand-1-promise : (l : Lent) (w : ℕ) (b : Bench) (r : StepResult) (l₁ : Lent) (b₁ : Bench) → StepPromise l w b r l₁ b₁ → ((q : Report)
+    → Given l w b q ↔ (reportOf r ≡ q)) × ((numberOf (r .answer) ≡ 0 → ⊥) → (l₁ ≡ l) × (b₁ ≡ b))
+demand-1-promise = Rattle.steps.proofs.Demand1.demand-1-promise
+
+-- The count that rows 0, 6 and 7 name is there, and is one number.
+pub demand-1-counted : (l : Lent) (w : ℕ) (b : Bench) (i : Insn) → Ready l w b i → (e : ℕ) → (n : ℕ) × Counted (Active l i) e n × ((k : ℕ)
+    → Counted (Active l i) e k → k ≡ n)
+demand-1-counted = Rattle.steps.proofs.Demand1.demand-1-counted
+
+-- A count is at most 256.
+pub demand-1-count : (l : Lent) (w : ℕ) (b : Bench) (r : StepResult) (l₁ : Lent) (b₁ : Bench) → StepPromise l w b r l₁ b₁ → r .count ≤ 256
+demand-1-count = Rattle.steps.proofs.Demand1.demand-1-count
