@@ -11,7 +11,8 @@ BREAKS = ("→", "↔", "×", "∷", "&&", "||", "in", "else", "∙")
 HEAD = """\
 # What is stated, with which definitions, and what the code promises. `.ci/statements` holds the tree to this list and `.ci/statements --write`
 # writes it. A line that changes here is a statement that changed: read it before it is written. An entry is a name and, below it, its text
-# without comments; `given` are the parameters of the modules around it, and `with` says where the names in it come from.
+# without comments; `given` are the parameters of the modules around it, and `with` says where the names in it come from. What is claimed stands
+# first, as claims/ cites it, and again in its own file. Part 4 has names alone: theorems and code hold each of these from two sides.
 """
 STATEMENTS = "1. Statements: every theorem that README.md and docs/PROMISES.md name, and what claims/ cites"
 STATED = "2. Definitions of statements: what statements use and no contract of a public function does"
@@ -20,6 +21,7 @@ BOTH = "4. On both sides: definitions that statements and contracts use"
 CONTRACTS = "5. Contracts: every public function of a library"
 KIT = "6. The kit's names: what stands in any of these, by the module that it comes from"
 CHECKED = "7. What is checked: the crates and their files; what the libraries pass on; how operators bind"
+PARTS = (STATEMENTS, STATED, PROMISED, BOTH, CONTRACTS, KIT, CHECKED)
 
 
 @dataclass(frozen=True)
@@ -142,7 +144,7 @@ def kit_entries(tree, roots, definitions):
 def entries(tree, told):
     """The whole list."""
     roots, stated, promised = sides(tree, told)
-    made = [statement(tree, node) for node in sorted(roots)]
+    made = [statement(tree, node) for node in sorted(roots, key=lambda node: (not node.file.startswith("claims/"), node))]
     made += [definition(tree, STATED, node) for node in sorted(stated - promised)]
     made += [definition(tree, PROMISED, node) for node in sorted(promised - stated)]
     made += [Entry(BOTH, node.file, node.name) for node in sorted(stated & promised)]
@@ -153,15 +155,16 @@ def entries(tree, told):
 
 def as_text(made):
     """The list as it is written: a heading for each part, and one for each file in it."""
-    out, part, group = [HEAD], None, None
-    for entry in made:
-        if entry.part != part:
-            out.append(f"\n# ==== {entry.part}\n")
-            part, group = entry.part, None
-        if entry.group != group:
-            out.append(f"\n## {entry.group}\n")
-            group = entry.group
-        out.append("\n".join((entry.name,) + entry.lines) + "\n")
+    out = [HEAD]
+    for part in PARTS:
+        out.append(f"\n# ==== {part}\n")
+        group, entries_of_part = None, [entry for entry in made if entry.part == part]
+        for entry in entries_of_part:
+            if entry.group != group:
+                out.append(f"\n## {entry.group}\n")
+                group = entry.group
+            out.append("\n".join((entry.name,) + entry.lines) + "\n")
+        out.append("" if entries_of_part else "\n# none\n")
     return "".join(out)
 
 

@@ -109,7 +109,7 @@ fn accepted_step<'a>(
     }
 }
 
-// One step. The vector file and the scalars are lent to be written, and RAM beside them; no load changes it.
+// One step. The vector file and the scalars are lent to be written; RAM is lent beside them, to be read.
 pub fn step<'a>(
     z: &mut [u8],
     x: &mut [u64],

@@ -10,6 +10,12 @@ use Rattle.words.specs.declared.Insn.{Insn}
 use mathlib.Core.Logic.{_↔_}
 use mathlib.Core.Path.{_≡_}
 
+-- Of any outcome that meets the promise, whatever came in: its number, count, element and address are those of the row of document 01's table that is
+-- given, and of no other; and any answer but 0 leaves the whole bench as it was.
+pub demand-1-promise : (l : Lent) (w : ℕ) (b : Bench) (r : StepResult) (l₁ : Lent) (b₁ : Bench) → StepPromise l w b r l₁ b₁
+    → ((q : Report) → Given l w b q ↔ (reportOf r ≡ q)) × ((numberOf (r .answer) ≡ 0 → ⊥) → (l₁ ≡ l) × (b₁ ≡ b))
+demand-1-promise = Rattle.steps.proofs.Demand1.demand-1-promise
+
 -- A step's number, count, element and address are those of a row of document 01's table exactly when the row says so.
 pub demand-1 : (l : Lent) (w : ℕ) (b : Bench) → w < 2 ^ 32 → (r : Report) → Given l w b r ↔ (stepOf l w b .report ≡ r)
 demand-1 = Rattle.steps.proofs.Demand1.demand-1
@@ -22,14 +28,9 @@ demand-1-one = Rattle.steps.proofs.Demand1.demand-1-one
 pub demand-1-kept : (l : Lent) (w : ℕ) (b : Bench) → (stepOf l w b .report .number ≡ 0 → ⊥) → (stepOf l w b .lent ≡ l) × (stepOf l w b .bench ≡ b)
 demand-1-kept = Rattle.steps.proofs.Demand1.demand-1-kept
 
--- The same of any outcome that meets the promise, whatever came in: its numbers are those of the row that is given, and of no other.
-pub demand-1-promise : (l : Lent) (w : ℕ) (b : Bench) (r : StepResult) (l₁ : Lent) (b₁ : Bench) → StepPromise l w b r l₁ b₁ → ((q : Report)
-    → Given l w b q ↔ (reportOf r ≡ q)) × ((numberOf (r .answer) ≡ 0 → ⊥) → (l₁ ≡ l) × (b₁ ≡ b))
-demand-1-promise = Rattle.steps.proofs.Demand1.demand-1-promise
-
 -- The count that rows 0, 6 and 7 name is there, and is one number.
-pub demand-1-counted : (l : Lent) (w : ℕ) (b : Bench) (i : Insn) → Ready l w b i → (e : ℕ) → (n : ℕ) × Counted (Active l i) e n × ((k : ℕ)
-    → Counted (Active l i) e k → k ≡ n)
+pub demand-1-counted : (l : Lent) (w : ℕ) (b : Bench) (i : Insn) → Ready l w b i → (e : ℕ) → (n : ℕ) × Counted (Active l i) e n
+    × ((k : ℕ) → Counted (Active l i) e k → k ≡ n)
 demand-1-counted = Rattle.steps.proofs.Demand1.demand-1-counted
 
 -- A count is at most 256.

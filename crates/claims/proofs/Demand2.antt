@@ -24,19 +24,75 @@ use mathlib.Core.List.{List}
 use mathlib.Core.Logic.{_↔_}
 use mathlib.Core.Path.{_≡_}
 
--- Where element e lies, family by family, in document 01's own formulas: modulo 2^64, and imm4 a whole number from -8 to 7. `Given` and
--- `Leaves` name each byte by these formulas (byteAt of Said); the laws say that the plan reads there.
+-- Those loads run, and nothing else does.
+pub demand-2-runs : (l : Lent) (w : ℕ) (b : Bench) (r : StepResult) (l₁ : Lent) (b₁ : Bench) (promise : StepPromise l w b r l₁ b₁)
+    → (numberOf (r .answer) ≡ 0) ↔ ((i : Insn) × Ready l w b i × AllReadable l b i)
+demand-2-runs = Rattle.steps.proofs.Demand2.demand-2-runs
+
+-- So, where it ran, the word is such a load, and that is what it leaves.
+pub demand-2-promise : (l : Lent) (w : ℕ) (b : Bench) (r : StepResult) (l₁ : Lent) (b₁ : Bench) (promise : StepPromise l w b r l₁ b₁)
+    → numberOf (r .answer) ≡ 0 → Done l w b l₁ b₁
+demand-2-promise = Rattle.steps.proofs.Demand2.demand-2-promise
+
+-- A load that is ready and can read every byte of its active elements leaves what document 01 says: each lane its extended
+-- number or zero, the base, PC, and everything else as it was.
+pub demand-2 : (l : Lent) (w : ℕ) (b : Bench) (r : StepResult) (l₁ : Lent) (b₁ : Bench) (promise : StepPromise l w b r l₁ b₁) → (i : Insn)
+    → Ready l w b i → AllReadable l b i → Leaves l b i l₁ b₁
+demand-2 = Rattle.steps.proofs.Demand2.demand-2
+
+-- These words leave nothing open: a bench of which they hold is the one that the step leaves.
+pub demand-2-determined : (l : Lent) (w : ℕ) (b : Bench) (r : StepResult) (l₁ : Lent) (b₁ : Bench) (promise : StepPromise l w b r l₁ b₁) → (l₂ : Lent)
+    (b₂ : Bench) → Done l w b l₂ b₂ → (l₂ ≡ l₁) × (b₂ ≡ b₁)
+demand-2-determined = Rattle.steps.proofs.Demand2.demand-2-determined
+
+-- Its count is the number of reads in the definition.
+pub demand-2-count : (l : Lent) (w : ℕ) (b : Bench) (r : StepResult) (l₁ : Lent) (b₁ : Bench) (promise : StepPromise l w b r l₁ b₁) → (i : Insn)
+    → Ready l w b i → AllReadable l b i → let p = planOf (l .settings .vl) (b .scalars) i in r .count ≡ length (asked p (governingBytes l p))
+demand-2-count = Rattle.steps.proofs.Demand2.demand-2-count
+
+-- An inactive lane becomes zero: of LD1,
+pub inactive-zero : (l : Lent) (w : ℕ) (b : Bench) (r : StepResult) (l₁ : Lent) (b₁ : Bench) (promise : StepPromise l w b r l₁ b₁) (i : Insn)
+    (ready : Ready l w b i) (all : AllReadable l b i) (k : ℕ) (inside : k < N l i) → (o : Offset) → i .shape ≡ Contiguous o → (LaneActive l i k → ⊥)
+    → laneIn l (b₁ .vectors) (i .target) (laneBytes i) k ≡ 0
+inactive-zero = Rattle.steps.proofs.Demand2.inactive-zero
+
+-- of LD1R by element,
+pub element-inactive-zero : (l : Lent) (w : ℕ) (b : Bench) (r : StepResult) (l₁ : Lent) (b₁ : Bench) (promise : StepPromise l w b r l₁ b₁) (i : Insn)
+    (ready : Ready l w b i) (all : AllReadable l b i) (k : ℕ) (inside : k < N l i) → (imm6 : ℕ) → i .shape ≡ ByElement imm6 → (LaneActive l i k → ⊥)
+    → laneIn l (b₁ .vectors) (i .target) (laneBytes i) k ≡ 0
+element-inactive-zero = Rattle.steps.proofs.Demand2.element-inactive-zero
+
+-- of a block load, where it is one of the block's own, zero in each copy;
+pub block-inactive-zero : (l : Lent) (w : ℕ) (b : Bench) (r : StepResult) (l₁ : Lent) (b₁ : Bench) (promise : StepPromise l w b r l₁ b₁) (i : Insn)
+    (ready : Ready l w b i) (all : AllReadable l b i) (k : ℕ) (inside : k < N l i) → (wide : Bool) (o : Offset) → i .shape ≡ Block wide o
+    → (LaneActive l i (k % K wide i) → ⊥) → laneIn l (b₁ .vectors) (i .target) (laneBytes i) k ≡ 0
+block-inactive-zero = Rattle.steps.proofs.Demand2.block-inactive-zero
+
+-- and so do the bytes that a block leaves over,
+pub left-over-zero : (l : Lent) (w : ℕ) (b : Bench) (r : StepResult) (l₁ : Lent) (b₁ : Bench) (promise : StepPromise l w b r l₁ b₁) (i : Insn)
+    (ready : Ready l w b i) (all : AllReadable l b i) (k : ℕ) (inside : k < N l i) → (wide : Bool) (o : Offset) → i .shape ≡ Block wide o
+    → copies l wide ≤ k / K wide i → laneIn l (b₁ .vectors) (i .target) (laneBytes i) k ≡ 0
+left-over-zero = Rattle.steps.proofs.Demand2.left-over-zero
+
+-- and, of LD1R, "the rest of the Z register".
+pub rest-zero : (l : Lent) (w : ℕ) (b : Bench) (r : StepResult) (l₁ : Lent) (b₁ : Bench) (promise : StepPromise l w b r l₁ b₁) (i : Insn)
+    (ready : Ready l w b i) (all : AllReadable l b i) (k : ℕ) (inside : k < N l i) → (q : ℕ) (back : Back) → i .shape ≡ Replicate q back
+    → 8 * 2 ^ q ≤ k * laneBytes i → laneIn l (b₁ .vectors) (i .target) (laneBytes i) k ≡ 0
+rest-zero = Rattle.steps.proofs.Demand2.rest-zero
+
+-- imm4 is a whole number from -8 to 7.
 pub imm4-signed : (v : ℕ) → v < 16 → signed4 v +ℤ pos 8 ≡ pos ((v + 8) % 16)
 imm4-signed = Rattle.steps.proofs.Demand2.imm4-signed
 
 -- base + (imm4 × N + e) × m
 pub ld1-immediate : (l : Lent) (x : List ℕ) (i : Insn) → (imm4 : ℕ) → i .shape ≡ Contiguous (Imm imm4) → (e : ℕ)
-    → elementAt (planOf (l .settings .vl) x i) e ≡ wrapℤ (pos (scalar x (i .base)) +ℤ (signed4 imm4 *ℤ pos (l .settings .vl / (8 * bytesOf (i .element .lane))) +ℤ pos e) *ℤ pos (bytesOf (i .element .memory)))
+    → elementAt (planOf (l .settings .vl) x i) e
+    ≡ wrapℤ (pos (scalar x (i .base)) +ℤ (signed4 imm4 *ℤ pos (l .settings .vl / (8 * bytesOf (i .element .lane))) +ℤ pos e) *ℤ pos (bytesOf (i .element .memory)))
 ld1-immediate = Rattle.steps.proofs.Demand2.ld1-immediate
 
 -- base + (Xm + e) × m
-pub ld1-scalar : (l : Lent) (x : List ℕ) (i : Insn) → (rm : ℕ) → i .shape ≡ Contiguous (Reg rm) → (e : ℕ)
-    → elementAt (planOf (l .settings .vl) x i) e ≡ wrap (scalar x (i .base) + (scalar x rm + e) * bytesOf (i .element .memory))
+pub ld1-scalar : (l : Lent) (x : List ℕ) (i : Insn) → (rm : ℕ) → i .shape ≡ Contiguous (Reg rm) → (e : ℕ) → elementAt (planOf (l .settings .vl) x i) e
+    ≡ wrap (scalar x (i .base) + (scalar x rm + e) * bytesOf (i .element .memory))
 ld1-scalar = Rattle.steps.proofs.Demand2.ld1-scalar
 
 -- base + imm4 × 16 + e × m
@@ -54,60 +110,12 @@ pub block-scalar : (l : Lent) (x : List ℕ) (i : Insn) → (wide : Bool) (rm : 
     → elementAt (planOf (l .settings .vl) x i) e ≡ wrap (scalar x (i .base) + (scalar x rm + e) * bytesOf (i .element .memory))
 block-scalar = Rattle.steps.proofs.Demand2.block-scalar
 
--- one read at the base
-pub ld1r : (l : Lent) (x : List ℕ) (i : Insn) → (q : ℕ) (back : Back) → i .shape ≡ Replicate q back
-    → elementAt (planOf (l .settings .vl) x i) 0 ≡ wrap (scalar x (i .base))
-ld1r = Rattle.steps.proofs.Demand2.ld1r
-
 -- one read at base + imm6 × m
-pub ld1r-by-element : (l : Lent) (x : List ℕ) (i : Insn) → (imm6 : ℕ) → i .shape ≡ ByElement imm6
-    → elementAt (planOf (l .settings .vl) x i) 0 ≡ wrap (scalar x (i .base) + imm6 * bytesOf (i .element .memory))
+pub ld1r-by-element : (l : Lent) (x : List ℕ) (i : Insn) → (imm6 : ℕ) → i .shape ≡ ByElement imm6 → elementAt (planOf (l .settings .vl) x i) 0
+    ≡ wrap (scalar x (i .base) + imm6 * bytesOf (i .element .memory))
 ld1r-by-element = Rattle.steps.proofs.Demand2.ld1r-by-element
 
--- A load that is ready and can read every byte of its active elements leaves what document 01 says: each lane its extended
--- number or zero, the base, PC, and everything else as it was.
-pub demand-2 : (l : Lent) (w : ℕ) (b : Bench) (r : StepResult) (l₁ : Lent) (b₁ : Bench) (promise : StepPromise l w b r l₁ b₁) → (i : Insn)
-    → Ready l w b i → AllReadable l b i → Leaves l b i l₁ b₁
-demand-2 = Rattle.steps.proofs.Demand2.demand-2
-
--- Those loads run, and nothing else does.
-pub demand-2-runs : (l : Lent) (w : ℕ) (b : Bench) (r : StepResult) (l₁ : Lent) (b₁ : Bench) (promise : StepPromise l w b r l₁ b₁)
-    → (numberOf (r .answer) ≡ 0) ↔ ((i : Insn) × Ready l w b i × AllReadable l b i)
-demand-2-runs = Rattle.steps.proofs.Demand2.demand-2-runs
-
--- So, where it ran, the word is such a load, and that is what it leaves.
-pub demand-2-promise : (l : Lent) (w : ℕ) (b : Bench) (r : StepResult) (l₁ : Lent) (b₁ : Bench) (promise : StepPromise l w b r l₁ b₁)
-    → numberOf (r .answer) ≡ 0 → Done l w b l₁ b₁
-demand-2-promise = Rattle.steps.proofs.Demand2.demand-2-promise
-
--- These words leave nothing open: a bench of which they hold is the one that the step leaves.
-pub demand-2-determined : (l : Lent) (w : ℕ) (b : Bench) (r : StepResult) (l₁ : Lent) (b₁ : Bench) (promise : StepPromise l w b r l₁ b₁)
-    → (l₂ : Lent) (b₂ : Bench) → Done l w b l₂ b₂ → (l₂ ≡ l₁) × (b₂ ≡ b₁)
-demand-2-determined = Rattle.steps.proofs.Demand2.demand-2-determined
-
--- The count is the number of reads in the definition.
-pub demand-2-count : (l : Lent) (w : ℕ) (b : Bench) (r : StepResult) (l₁ : Lent) (b₁ : Bench) (promise : StepPromise l w b r l₁ b₁) → (i : Insn)
-    → Ready l w b i → AllReadable l b i → let p = planOf (l .settings .vl) (b .scalars) i in r .count ≡ length (asked p (governingBytes l p))
-demand-2-count = Rattle.steps.proofs.Demand2.demand-2-count
-
-pub inactive-zero : (l : Lent) (w : ℕ) (b : Bench) (r : StepResult) (l₁ : Lent) (b₁ : Bench) (promise : StepPromise l w b r l₁ b₁) (i : Insn) (ready : Ready l w b i) (all : AllReadable l b i) (k : ℕ) (inside : k < N l i)
-    → (o : Offset) → i .shape ≡ Contiguous o → (LaneActive l i k → ⊥) → laneIn l (b₁ .vectors) (i .target) (laneBytes i) k ≡ 0
-inactive-zero = Rattle.steps.proofs.Demand2.inactive-zero
-
-pub element-inactive-zero : (l : Lent) (w : ℕ) (b : Bench) (r : StepResult) (l₁ : Lent) (b₁ : Bench) (promise : StepPromise l w b r l₁ b₁) (i : Insn) (ready : Ready l w b i) (all : AllReadable l b i) (k : ℕ) (inside : k < N l i)
-    → (imm6 : ℕ) → i .shape ≡ ByElement imm6 → (LaneActive l i k → ⊥) → laneIn l (b₁ .vectors) (i .target) (laneBytes i) k ≡ 0
-element-inactive-zero = Rattle.steps.proofs.Demand2.element-inactive-zero
-
-pub block-inactive-zero : (l : Lent) (w : ℕ) (b : Bench) (r : StepResult) (l₁ : Lent) (b₁ : Bench) (promise : StepPromise l w b r l₁ b₁) (i : Insn) (ready : Ready l w b i) (all : AllReadable l b i) (k : ℕ) (inside : k < N l i)
-    → (wide : Bool) (o : Offset) → i .shape ≡ Block wide o → (LaneActive l i (k % K wide i) → ⊥)
-    → laneIn l (b₁ .vectors) (i .target) (laneBytes i) k ≡ 0
-block-inactive-zero = Rattle.steps.proofs.Demand2.block-inactive-zero
-
-pub left-over-zero : (l : Lent) (w : ℕ) (b : Bench) (r : StepResult) (l₁ : Lent) (b₁ : Bench) (promise : StepPromise l w b r l₁ b₁) (i : Insn) (ready : Ready l w b i) (all : AllReadable l b i) (k : ℕ) (inside : k < N l i)
-    → (wide : Bool) (o : Offset) → i .shape ≡ Block wide o → copies l wide ≤ k / K wide i → laneIn l (b₁ .vectors) (i .target) (laneBytes i) k ≡ 0
-left-over-zero = Rattle.steps.proofs.Demand2.left-over-zero
-
--- LD1R: "the rest of the Z register becomes zero"
-pub rest-zero : (l : Lent) (w : ℕ) (b : Bench) (r : StepResult) (l₁ : Lent) (b₁ : Bench) (promise : StepPromise l w b r l₁ b₁) (i : Insn) (ready : Ready l w b i) (all : AllReadable l b i) (k : ℕ) (inside : k < N l i)
-    → (q : ℕ) (back : Back) → i .shape ≡ Replicate q back → 8 * 2 ^ q ≤ k * laneBytes i → laneIn l (b₁ .vectors) (i .target) (laneBytes i) k ≡ 0
-rest-zero = Rattle.steps.proofs.Demand2.rest-zero
+-- one read at the base
+pub ld1r : (l : Lent) (x : List ℕ) (i : Insn) → (q : ℕ) (back : Back) → i .shape ≡ Replicate q back → elementAt (planOf (l .settings .vl) x i) 0
+    ≡ wrap (scalar x (i .base))
+ld1r = Rattle.steps.proofs.Demand2.ld1r

@@ -35,21 +35,21 @@ pub none-exactly : (vl : ℕ) (z : List ℕ) (register : ℕ) (kind : Kind) (wid
 none-exactly = Rattle.lanes.proofs.Windows.none-exactly
 
 -- "with exactly the lane's bits": the number of its bytes, each byte, and no other bit
-pub bits-exactly : (vl : ℕ) (z : List ℕ) (register : ℕ) (kind : Kind) (width lane : ℕ) (r : Shown) (p : ShowPromise vl z register kind width lane r) (t : There vl z register kind width lane)
-    → bitsOf r ≡ little (laneByte vl z register width lane) 0 (width / 8)
+pub bits-exactly : (vl : ℕ) (z : List ℕ) (register : ℕ) (kind : Kind) (width lane : ℕ) (r : Shown) (p : ShowPromise vl z register kind width lane r)
+    (t : There vl z register kind width lane) → bitsOf r ≡ little (laneByte vl z register width lane) 0 (width / 8)
 bits-exactly = Rattle.lanes.proofs.Windows.bits-exactly
 
-pub bits-below : (vl : ℕ) (z : List ℕ) (register : ℕ) (kind : Kind) (width lane : ℕ) (r : Shown) (p : ShowPromise vl z register kind width lane r) (t : There vl z register kind width lane)
-    → bitsOf r < 2 ^ width
+pub bits-below : (vl : ℕ) (z : List ℕ) (register : ℕ) (kind : Kind) (width lane : ℕ) (r : Shown) (p : ShowPromise vl z register kind width lane r)
+    (t : There vl z register kind width lane) → bitsOf r < 2 ^ width
 bits-below = Rattle.lanes.proofs.Windows.bits-below
 
-pub bytes-exactly : (vl : ℕ) (z : List ℕ) (register : ℕ) (kind : Kind) (width lane : ℕ) (r : Shown) (p : ShowPromise vl z register kind width lane r) (t : There vl z register kind width lane)
-    → (j : ℕ) → j < width / 8 → bitsOf r / 256 ^ j % 256 ≡ laneByte vl z register width lane j
+pub bytes-exactly : (vl : ℕ) (z : List ℕ) (register : ℕ) (kind : Kind) (width lane : ℕ) (r : Shown) (p : ShowPromise vl z register kind width lane r)
+    (t : There vl z register kind width lane) → (j : ℕ) → j < width / 8 → bitsOf r / 256 ^ j % 256 ≡ laneByte vl z register width lane j
 bytes-exactly = Rattle.lanes.proofs.Windows.bytes-exactly
 
 -- "as a single, a double or a whole number, as asked"
-pub as-asked : (vl : ℕ) (z : List ℕ) (register : ℕ) (kind : Kind) (width lane : ℕ) (r : Shown) (p : ShowPromise vl z register kind width lane r) (t : There vl z register kind width lane)
-    → AsAsked kind r
+pub as-asked : (vl : ℕ) (z : List ℕ) (register : ℕ) (kind : Kind) (width lane : ℕ) (r : Shown) (p : ShowPromise vl z register kind width lane r)
+    (t : There vl z register kind width lane) → AsAsked kind r
 as-asked = Rattle.lanes.proofs.Windows.as-asked
 
 pub window-answers : (vl : ℕ) (z : List ℕ) (register : ℕ) (kind : Kind) (width lane : ℕ) (r : Shown) (p : ShowPromise vl z register kind width lane r)

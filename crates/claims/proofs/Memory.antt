@@ -46,12 +46,12 @@ overlap-shared = Rattle.memory.proofs.Accepts.overlap-shared
 pub areas-exactly : (m : Areas) → (areAreasAccepted m ≡ true) ↔ AreasAccepted m
 areas-exactly = Rattle.memory.proofs.Accepts.areas-exactly
 
-pub value-exactly : (look : ℕ → Cell) (a n : ℕ) (l : a < 2 ^ 64) → (v : ℕ) → (readingOf look a n ≡ Value v) ↔ (((k : ℕ) → k < n
-    → FindsByte look (plusOf a k)) × (v ≡ little (λ k. byteFound (look (plusOf a k))) 0 n))
+pub value-exactly : (look : ℕ → Cell) (a n : ℕ) (l : a < 2 ^ 64) → (v : ℕ) → (readingOf look a n ≡ Value v)
+    ↔ (((k : ℕ) → k < n → FindsByte look (plusOf a k)) × (v ≡ little (λ k. byteFound (look (plusOf a k))) 0 n))
 value-exactly = Rattle.memory.proofs.Elements.value-exactly
 
-pub bad-exactly : (look : ℕ → Cell) (a n : ℕ) (l : a < 2 ^ 64) → (f : Fault) (x : Address) → (readingOf look a n ≡ Bad f x) ↔ ((k : ℕ) × (k < n)
-    × (look (plusOf a k) ≡ C.Bad f) × (x .0 ≡ plusOf a k) × ((j : ℕ) → j < k → FindsByte look (plusOf a j)))
+pub bad-exactly : (look : ℕ → Cell) (a n : ℕ) (l : a < 2 ^ 64) → (f : Fault) (x : Address) → (readingOf look a n ≡ Bad f x)
+    ↔ ((k : ℕ) × (k < n) × (look (plusOf a k) ≡ C.Bad f) × (x .0 ≡ plusOf a k) × ((j : ℕ) → j < k → FindsByte look (plusOf a j)))
 bad-exactly = Rattle.memory.proofs.Elements.bad-exactly
 
 -- where flash holds the address, flash is looked at, whatever RAM holds
@@ -64,8 +64,8 @@ nowhere-exactly = Rattle.memory.proofs.Looks.nowhere-exactly
 pub denied-exactly : (m : Areas) (t : AreasAccepted m) (a : ℕ) → (lookOf m a ≡ Bad Denied) ↔ ((r : Area) × OneOf m r × Holds r a × (Right r a → ⊥))
 denied-exactly = Rattle.memory.proofs.Looks.denied-exactly
 
-pub byte-exactly : (m : Areas) (t : AreasAccepted m) (a : ℕ) → (b : ℕ) → (lookOf m a ≡ Byte b) ↔ ((r : Area) × OneOf m r × Holds r a × Right r a
-    × (b ≡ getD (r .bytes) (a - r .start) 0))
+pub byte-exactly : (m : Areas) (t : AreasAccepted m) (a : ℕ) → (b : ℕ) → (lookOf m a ≡ Byte b)
+    ↔ ((r : Area) × OneOf m r × Holds r a × Right r a × (b ≡ getD (r .bytes) (a - r .start) 0))
 byte-exactly = Rattle.memory.proofs.Looks.byte-exactly
 
 pub moved-pos : (a n : ℕ) → movedOf a (pos n) ≡ wrap (a + n)
@@ -99,12 +99,12 @@ areas-accepted-said = Rattle.memory.proofs.Promises.areas-accepted-said
 pub byte-nowhere-said : (m : Areas) (a : ℕ) (r : Cell) (p : BytePromise m a r) → (r ≡ C.Bad Nowhere) ↔ ((Holds (m .flash) a → ⊥) × (Holds (m .ram) a → ⊥))
 byte-nowhere-said = Rattle.memory.proofs.Promises.byte-nowhere-said
 
-pub byte-denied-said : (m : Areas) (a : ℕ) (r : Cell) (p : BytePromise m a r) → AreasAccepted m → (r ≡ C.Bad Denied) ↔ ((q : Area) × OneOf m q
-    × Holds q a × (Right q a → ⊥))
+pub byte-denied-said : (m : Areas) (a : ℕ) (r : Cell) (p : BytePromise m a r) → AreasAccepted m → (r ≡ C.Bad Denied)
+    ↔ ((q : Area) × OneOf m q × Holds q a × (Right q a → ⊥))
 byte-denied-said = Rattle.memory.proofs.Promises.byte-denied-said
 
-pub byte-found-said : (m : Areas) (a : ℕ) (r : Cell) (p : BytePromise m a r) → AreasAccepted m → (b : ℕ) → (r ≡ C.Byte b) ↔ ((q : Area) × OneOf m q
-    × Holds q a × Right q a × (b ≡ getD (q .bytes) (a - q .start) 0))
+pub byte-found-said : (m : Areas) (a : ℕ) (r : Cell) (p : BytePromise m a r) → AreasAccepted m → (b : ℕ) → (r ≡ C.Byte b)
+    ↔ ((q : Area) × OneOf m q × Holds q a × Right q a × (b ≡ getD (q .bytes) (a - q .start) 0))
 byte-found-said = Rattle.memory.proofs.Promises.byte-found-said
 
 pub element-value-said : (m : Areas) (a : ℕ) (s : Size) (r : Reading) (p : ElementPromise m a s r) (l : a < 2 ^ 64) → (v : ℕ) → (r ≡ R.Value v)
@@ -112,8 +112,8 @@ pub element-value-said : (m : Areas) (a : ℕ) (s : Size) (r : Reading) (p : Ele
 element-value-said = Rattle.memory.proofs.Promises.element-value-said
 
 pub element-bad-said : (m : Areas) (a : ℕ) (s : Size) (r : Reading) (p : ElementPromise m a s r) (l : a < 2 ^ 64) → (f : Fault) (x : Address)
-    → (r ≡ R.Bad f x) ↔ ((k : ℕ) × (k < bytesOf s) × (lookOf m (plusOf a k) ≡ C.Bad f) × (x .0 ≡ plusOf a k) × ((j : ℕ) → j < k
-    → FindsByte (lookOf m) (plusOf a j)))
+    → (r ≡ R.Bad f x) ↔ ((k : ℕ) × (k < bytesOf s) × (lookOf m (plusOf a k) ≡ C.Bad f) × (x .0 ≡ plusOf a k)
+    × ((j : ℕ) → j < k → FindsByte (lookOf m) (plusOf a j)))
 element-bad-said = Rattle.memory.proofs.Promises.element-bad-said
 
 pub plus-unique : (a n : ℕ) (x y : Address) → PlusPromise a n x → PlusPromise a n y → x ≡ y
@@ -141,8 +141,8 @@ pub shows-rest : (m : Areas) (a : ℕ) (flash ram p : RefT (List ℕ)) (w : Wind
 shows-rest = Rattle.memory.proofs.Windows.shows-rest
 
 -- no such byte: an empty part, of flash
-pub shows-none : (m : Areas) (a : ℕ) (flash ram p : RefT (List ℕ)) (w : WindowPromise m a flash ram p) → (Holds (m .flash) a → ⊥) → (Holds (m .ram) a
-    → ⊥) → PartOf flash p 0 0
+pub shows-none : (m : Areas) (a : ℕ) (flash ram p : RefT (List ℕ)) (w : WindowPromise m a flash ram p) → (Holds (m .flash) a → ⊥)
+    → (Holds (m .ram) a → ⊥) → PartOf flash p 0 0
 shows-none = Rattle.memory.proofs.Windows.shows-none
 
 -- areas that are not accepted: an empty part, of flash

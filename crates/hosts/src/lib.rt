@@ -31,7 +31,7 @@ fn numbered(result: StepResult) -> StepNumbers
     }
 }
 
-// One step. What it may write is lent first, and RAM beside that; each slice is a pointer and a length.
+// One step. What it may write is lent first, and RAM, to be read, beside that; each slice is a pointer and a length.
 #[no_mangle]
 pub extern "C" fn kjolvast_step<'a>(
     z: &mut [u8],

@@ -2,9 +2,9 @@
 -- row, and with it demand-1-counted, demand-2, -count and -determined; its shape is the premise of its address formula. A second table has a bench for
 -- each answer but 0, which demand-1-kept speaks of.
 --
--- No witness is needed of a premise that a theorem has met: StepPromise has an outcome for any input that its types can hold (`promise-met`); `Ready` and `AllReadable` together
--- are exactly "it ran" (`demand-2-runs`); `Given` is exactly the report (`demand-1`); `Leaves` is what the step leaves (`demand-2`), and nothing else
--- (`demand-2-determined`). The pairs of demand 3 stand in Pairs.
+-- No witness is needed of a premise that a theorem has met: StepPromise has an outcome for any input that its types can hold (`promise-met`); `Ready` and
+-- `AllReadable` together are exactly "it ran" (`demand-2-runs`); `Given` is exactly the report (`demand-1`); `Leaves` is what the step leaves (`demand-2`),
+-- and nothing else (`demand-2-determined`). The pairs of demand 3 stand in Pairs.
 use Prim.Native.Nat.{ℕ, zero, suc, _-_, _*_, _/_, _%_, _^_, _≤_, _<_}
 use lib.ListN.{length, replicate}
 use mathlib.Core.Path.{_≡_, refl, sym, ap, subst, _∙_}
@@ -34,6 +34,8 @@ use Rattle.steps.specs.Lanes.{governingBytes, bitOf, isActive, wanted, asked, l
 use Rattle.steps.specs.Outcomes.{Outcome, answersIn, surveyOf, outcomeOf}
 use Rattle.steps.specs.Step.{stackFails, refusals, plannedLoad, plannedOf, preparedOf, stepOf, StepPromise}
 use Rattle.steps.specs.Said.{laneBytes, N, K, copies, LaneActive, Active, lies}
+use Rattle.steps.specs.Answers.{Report}
+use Rattle.steps.specs.Demand1 as G
 use Rattle.steps.specs.Demand1.{Ready, AllReadable, Counted, elementLimit, Given}
 use Rattle.steps.specs.Demand2.{laneIn, Leaves, Done}
 use Rattle.steps.specs.declared.StepResult.{StepResult}
@@ -188,16 +190,19 @@ module _ (t : Witness) (h : Met t) where
     λ l₁ b₁ q. demand-2-determined l _ b _ _ _ promise l₁ b₁ (i, h .ready, h .readable, q),
   )
 
-  -- its count is a count of the active elements, and the number of reads
+  -- its count is that of the active elements, and the number of reads
   abbrev Counts : Type 0
   Counts =
       let p = planOf (l .settings .vl) (b .scalars) i in
-      (n : ℕ) × Counted (Active l i) elementLimit n × (result .count ≡ length (asked p (governingBytes l p)))
+      Counted (Active l i) elementLimit (result .count) × (result .count ≡ length (asked p (governingBytes l p)))
 
   counts : Counts
   counts =
       let c = demand-1-counted l (t .word) b i (h .ready) elementLimit in
-      (c .0, c .1, demand-2-count l _ b _ _ _ promise i (h .ready) (h .readable))
+      let row = demand-1-promise l _ b _ _ _ promise .0 _ .0 (G.ran i (h .ready) (h .readable) (c .1)) in (
+        subst (Counted (Active l i) elementLimit) (sym (ap (λ (q : Report). q .count) row)) (c .1),
+        demand-2-count l _ b _ _ _ promise i (h .ready) (h .readable),
+      )
 
   -- .. and it ran, so that it is done
   done : Done l (t .word) b (after .lent) (after .bench)

@@ -147,7 +147,9 @@ module _ (l : Lent) (b : Bench) (l′ : Lent) (b′ : Bench) (accepted : Accepte
         each : (d : Decoded) → readOf w ≡ d → P₂ (atStack l (b .scalars) (plannedBy (l .settings) (b .scalars) d))
         each Outside e = stop (refusalReport 2)
         each Undefined e = stop (refusalReport 3)
-        each (Is i) e = ⊎-elim (λ h. subst P₂ (sym (h .1)) (go i (h .0))) (λ h. subst P₂ (sym (h .2)) (stop (h .0))) (ways l w b accepted i (insn-means w small i e))
+        each (Is i) e =
+            ⊎-elim (λ h. subst P₂ (sym (h .1)) (go i (h .0))) (λ h. subst P₂ (sym (h .2)) (stop (h .0)))
+            (ways l w b accepted i (insn-means w small i e))
 
     pub same-report : stepOf l w b .report ≡ stepOf l′ w b′ .report
     unfolding outcomeOf

@@ -1,5 +1,5 @@
--- Demand 1 over the definition of a step, and of any outcome that meets its promise, in the words of specs/Said and specs/Demand1: "Any input", each answer exactly when document 01
--- says, and any answer but 0 changes nothing.
+-- Demand 1 over the definition of a step, and of any outcome that meets its promise, in the words of specs/Said and specs/Demand1: "Any input", each
+-- answer exactly when document 01 says, and any answer but 0 changes nothing.
 use mathlib.Core.Path.{_≡_, sym, subst}
 use mathlib.Core.Logic.{_↔_}
 use Prim.Native.Nat.{ℕ, _^_, _≤_, _<_}

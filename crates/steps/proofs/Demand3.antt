@@ -1,4 +1,4 @@
--- Demand 3 over the definition of a step, in the words of specs/Said and specs/Demand3: nothing but the active elements matters.
+-- Demand 3 of any two outcomes that meet the promise of a step, in the words of specs/Said and specs/Demand3: nothing but the active elements matters.
 --
 -- No value shows a read by itself. So the order of reads is stated by which byte 6 or 7 names and by the count (demand 1), and "its
 -- memory is not looked at" by demand 3: rights and bytes may differ wherever no active element lies, and nothing that a step tells or
@@ -6,7 +6,8 @@
 -- step, and those are what demands 1 and 2 say, so a constant does not meet it.
 --
 -- Nor can its premise grow: `touched-exactly`, `same-exactly`, `rights-exactly` and `bytes-exactly` of Touches say that it asks for agreement at the bytes
--- that the definition asks for, and for nothing else; and `premise-exactly` of Needs, that where a step runs it is what the promise takes.
+-- that the definition asks for, and for nothing else; and `premise-exactly` of Needs,
+-- that where a step runs it holds exactly if the other runs too and leaves the same vectors.
 use mathlib.Core.Path.{_≡_, sym, ap, subst₂, _∙_}
 use mathlib.Core.Bool.{true}
 use mathlib.Core.List.{List}

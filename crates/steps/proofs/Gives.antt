@@ -199,8 +199,10 @@ module _ (l : Lent) (w : ℕ) (b : Bench) where
   meant small r (S.outside a e) = told-by _ _ (evaluated Outside a (outside-exactly w small .1 e)) refl
   meant small r (S.undefined a e) = told-by _ _ (evaluated Undefined a (means-read w Undefined e)) refl
   meant small r (S.no-f64mm i a e v f) = loads i a e ∙ rw (wide-exactly (i .shape) .1 v, f)
-  meant small r (S.switched-off i a e has o) = loads i a e ∙ rw (f64mm-fine i has, off (switchedOn (l .settings) (i .shape)) (λ t. o (on-exactly l (i .shape) .0 t)))
-  meant small r (S.short i a e v has on s) = loads i a e ∙ rw (f64mm-fine i (λ _. has), on-exactly l (i .shape) .1 on, wide-exactly (i .shape) .1 v, lt-ltb _ _ s)
+  meant small r (S.switched-off i a e has o) =
+      loads i a e ∙ rw (f64mm-fine i has, off (switchedOn (l .settings) (i .shape)) (λ t. o (on-exactly l (i .shape) .0 t)))
+  meant small r (S.short i a e v has on s) =
+      loads i a e ∙ rw (f64mm-fine i (λ _. has), on-exactly l (i .shape) .1 on, wide-exactly (i .shape) .1 v, lt-ltb _ _ s)
   meant small r (S.stack i d h c z) =
       loads i (d .accepted) (d .reads)
       ∙ ap (λ (p : Prepared). carriedOut l b p .report) (at-stack i d true (stack-exactly l b (d .accepted) i (d .long) .1 (h, c, z)))

@@ -20,7 +20,7 @@ pub record Lent : Type 0 where
   pub flashRights : List ℕ
   pub ramRights : List ℕ
 
--- what a step may change: the vector file, the scalars X0 to X30, SP, PC, and RAM (which no load changes)
+-- what an instruction may change: the vector file, the scalars X0 to X30, SP, PC, and RAM, which no load changes (`ram` of Leaves)
 pub record Bench : Type 0 where
   pub vectors : List ℕ
   pub scalars : List ℕ

@@ -44,7 +44,7 @@ pub record ElementValue (l : Lent) (b : Bench) (i : Insn) (e v : ℕ) : Type 0 w
   pub contained : (j : ℕ) → j < m i → Contains (areasIn l b) (byteAt l (b .scalars) i e j) (byte j)
   pub value : v ≡ little byte 0 (m i)
 
--- "Post-index adds the read's size when Rm = 31, else Xm as it was before the step"
+-- "Post-index adds the read's size when Rm = 31, else Xm as it was before the step". No other shape has a case: it writes nothing back
 pub data AddsAs (x : List ℕ) (i : Insn) : Shape → ℕ → Type 0 where
   size : {q r : ℕ} → r ≡ 31 → AddsAs x i (Replicate q (Post r)) (m i)
   register : {q r : ℕ} → (r ≡ 31 → ⊥) → AddsAs x i (Replicate q (Post r)) (scalar x r)
@@ -60,21 +60,25 @@ pub record WrittenBack (x : List ℕ) (i : Insn) (v : ℕ) : Type 0 where
 
 -- what a load that ran leaves, and that it leaves all else as it was
 pub record Leaves (l : Lent) (b : Bench) (i : Insn) (l′ : Lent) (b′ : Bench) : Type 0 where
+  -- a lane that takes an element holds its value, extended; any other lane of the register is zero
   pub lane : (k e v : ℕ) → k < N l i → Takes l i k e → ElementValue l b i e v
       → Extends (i .element .signed) (8 * m i) (8 * laneBytes i) v (laneIn l (b′ .vectors) (i .target) (laneBytes i) k)
   pub zero : (k : ℕ) → k < N l i → ((e : ℕ) → Takes l i k e → ⊥) → laneIn l (b′ .vectors) (i .target) (laneBytes i) k ≡ 0
+  -- the register holds bytes, and the file is as it was below and above it, and as long
   pub bytes : (j : ℕ) → j < l .settings .vl / 8 → getD (b′ .vectors) (i .target * (l .settings .vl / 8) + j) 0 < 256
   pub below : (j : ℕ) → j < i .target * (l .settings .vl / 8) → getD (b′ .vectors) j 0 ≡ getD (b .vectors) j 0
   pub above : (j : ℕ) → suc (i .target) * (l .settings .vl / 8) ≤ j → getD (b′ .vectors) j 0 ≡ getD (b .vectors) j 0
   pub vectors : length (b′ .vectors) ≡ length (b .vectors)
+  -- the base, where it is written back; PC; every scalar but these as it was, and as many
   pub base : (v : ℕ) → WrittenBack (b .scalars) i v → scalar (b′ .scalars) (i .base) ≡ v
   pub pc : scalar (b′ .scalars) 32 ≡ wrap (scalar (b .scalars) 32 + 4)
   pub others : (n : ℕ) → (n ≡ 32 → ⊥) → ((v : ℕ) → WrittenBack (b .scalars) i v → n ≡ i .base → ⊥)
       → scalar (b′ .scalars) n ≡ scalar (b .scalars) n
   pub scalars : length (b′ .scalars) ≡ length (b .scalars)
+  -- no load changes RAM, nor what is lent to be read alone
   pub ram : b′ .ram ≡ b .ram
   pub lent : l′ ≡ l
 
--- .. of some load that the word is, which could run
+-- what a step that ran leaves: `Leaves`, of a load that the word is, which could run
 abbrev pub Done : Lent → ℕ → Bench → Lent → Bench → Type 0
 Done l w b l′ b′ = (i : Insn) × Ready l w b i × AllReadable l b i × Leaves l b i l′ b′

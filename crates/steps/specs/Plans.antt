@@ -14,7 +14,7 @@ use Rattle.steps.specs.declared.Rule.{Rule}
 use Rattle.steps.specs.declared.Rule.the-variants.{Always, LaneBit, ElementBit}
 use Rattle.steps.specs.declared.Plan.{Plan}
 
--- N: VL divided by the lane size. The plan says N, K and a block's copies in its own words, apart from Said, so that each pins the other.
+-- N: VL divided by the lane size. The plan says N, K and a block's copies by itself, apart from Said: a slip in one of the two is seen.
 abbrev pub lanesOf : ℕ → Size → ℕ
 lanesOf vl lane = vl / (8 * bytesOf lane)
 

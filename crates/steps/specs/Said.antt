@@ -39,7 +39,7 @@ laneBytes i = bytesOf (i .element .lane)
 abbrev pub N : Lent → Insn → ℕ
 N l i = l .settings .vl / (8 * laneBytes i)
 
--- K, our letter: how many lanes a block of 128 or 256 bits has; lane l takes element l mod K
+-- K, our letter: how many lanes a block of 128 or 256 bits has; lane k takes element k mod K
 abbrev pub K : Bool → Insn → ℕ
 K wide i = blockBytes wide / laneBytes i
 

@@ -164,7 +164,7 @@ unfolding readOf
 clashing-outside fs c w t =
     ⊎-elim (λ h. absurd (first-only w (fs ⇨ (λ w. Outside)) families (and-both _ _ c families-apart) (h .0) (h .1) t)) (λ n. n .1) (found w families)
 
--- A table with all its rows, in any order and with whichever others that clash, reads every word that was not outside as before;
+-- A table with all its rows, in any order and with any further ones, as long as no word fits two, reads every word that was not outside as before;
 pub settled : (rows : List FamilyRow) → apart rows ≡ true → Among families rows → (w : ℕ) → (readOf w ≡ Outside → ⊥) → readBy rows w ≡ readOf w
 unfolding readOf
 settled rows a m w inside =
@@ -200,12 +200,11 @@ any-order rows m n w =
     (found w families))
     (found w rows)
 
--- A witness that the premises can be met: our table with one row more in front, that of a prefetch, which is not wanted. The rows clash, and
--- the prefetch's word 85C00000 is outside.
-abbrev another : FamilyRow
+-- A witness that the premises can be met: our table with one row more in front, that of a prefetch, which is not wanted.
+abbrev pub another : FamilyRow
 another = (bitsAre 31 25 0b1000010 ∷ bitsAre 24 22 0b111 ∷ bitsAre 15 15 0b0 ∷ bitsAre 4 4 0b0 ∷ []) ⇨ (λ w. Undefined)
 
-abbrev longer : List FamilyRow
+abbrev pub longer : List FamilyRow
 longer = another ∷ families
 
 longer-apart : apart longer ≡ true
@@ -215,9 +214,17 @@ longer-apart = refl
 longer-has : Among families longer
 longer-has k h = (suc k, omega arith, refl)
 
-pub longer-takes : readOf 0x85C00000 ≡ Outside
+-- No word fits two of its rows, and it has all of ours; so every word that was not outside is read as before, and the prefetch's word 85C00000, which the
+-- new row takes, was outside.
+pub longer-takes : (apart longer ≡ true) × Among families longer × ((w : ℕ) → (readOf w ≡ Outside → ⊥) → readBy longer w ≡ readOf w)
+    × (readBy longer 0x85C00000 ≡ Undefined) × (readOf 0x85C00000 ≡ Outside)
 longer-takes =
-    let here : FitsAt longer 0x85C00000 0 = record { there = omega arith; fitting = refl } in
-    added longer longer-apart longer-has 0x85C00000 0 here
-    (λ k h e. let same = ap (λ (r : FamilyRow). fits 0x85C00000 (r .bits)) e in
-    first-only 0x85C00000 another families longer-apart k (record { there = h; fitting = sym same }) refl)
+    let here : FitsAt longer 0x85C00000 0 = record { there = omega arith; fitting = refl } in (
+      longer-apart,
+      longer-has,
+      settled longer longer-apart longer-has,
+      place-reads 0x85C00000 longer longer-apart 0 here,
+      added longer longer-apart longer-has 0x85C00000 0 here
+          (λ k h e. let same = ap (λ (r : FamilyRow). fits 0x85C00000 (r .bits)) e in
+          first-only 0x85C00000 another families longer-apart k (record { there = h; fitting = sym same }) refl),
+    )

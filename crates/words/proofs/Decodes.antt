@@ -38,7 +38,7 @@ module _ (w : ℕ) (small : w < 2 ^ 32) where
   pub decodes-exactly : (d : Decoded) → (d ≡ Outside → ⊥) → (readOf w ≡ d) ↔ Means w d
   decodes-exactly d h = (λ e. let x = written-out w small (λ o. h (sym e ∙ o)) in (x, sym (read-written w x) ∙ e), means-read w d)
 
-  -- the same of an undefined word, and of an instruction
+  -- the other way round, of an undefined word and of an instruction
   pub undefined-means : readOf w ≡ Undefined → Means w Undefined
   undefined-means = decodes-exactly Undefined (λ o. subst Inside o tt) .0
 

@@ -1,4 +1,4 @@
--- The dtype table against a rule that does not look at it: dh and dl are the two sizes, and where they fall, both are turned round and
+-- The dtype table against a rule that does not look at it: dh and dl are the two sizes, and where dh is the larger, both are turned round and
 -- the sign is extended. A row that is wrong, or two that are swapped, are refused by `dtype-table`. No two rows are the same.
 use Prim.Native.Nat.{ℕ, _+_, _-_, _*_, _/_, _%_, _≤_, _<_}
 use mathlib.Core.Path.{_≡_, refl, sym, ap, _∙_}
