@@ -12,7 +12,7 @@ HEAD = """\
 # What is stated, with which definitions, and what the code promises. `.ci/statements` holds the tree to this list and `.ci/statements --write`
 # writes it. A line that changes here is a statement that changed: read it before it is written. An entry is a name and, below it, its text
 # without comments; `given` are the parameters of the modules around it, and `with` says where the names in it come from. What is claimed stands
-# first, as claims/ cites it, and again in its own file. Part 4 has names alone: theorems and code hold each of these from two sides.
+# first, as claims/ cites it, and again in its own file.
 """
 STATEMENTS = "1. Statements: every theorem that README.md and docs/PROMISES.md name, and what claims/ cites"
 STATED = "2. Definitions of statements: what statements use and no contract of a public function does"
@@ -147,7 +147,7 @@ def entries(tree, told):
     made = [statement(tree, node) for node in sorted(roots, key=lambda node: (not node.file.startswith("claims/"), node))]
     made += [definition(tree, STATED, node) for node in sorted(stated - promised)]
     made += [definition(tree, PROMISED, node) for node in sorted(promised - stated)]
-    made += [Entry(BOTH, node.file, node.name) for node in sorted(stated & promised)]
+    made += [definition(tree, BOTH, node) for node in sorted(stated & promised)]
     made += [contract(tree, key, function) for key, function in public_functions(tree)]
     made += kit_entries(tree, roots, stated | promised)
     return made + checked(tree)

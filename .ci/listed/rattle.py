@@ -11,8 +11,16 @@ IMPL = re.compile(r"\bimpl\s+(\w+)[^{]*\{")
 CLAUSE = re.compile(r"\s*(requires|ensures|ghost)\s*\{")
 FOREIGN = re.compile(r'\bextern\s*(?:"[^"]*"\s*)?\{')
 BRACE = re.compile(r"[{}()]")
-LITERAL = re.compile(r"""b?"(?:\\.|[^"\\])*"|b?'(?:\\.|[^'\\])'""")
-LITERAL_OR_COMMENT = re.compile(LITERAL.pattern + r"|//[^\n]*|/\*")
+RAW = re.compile(r'\b(?:b|c)?r(?P<marks>#*)".*?"(?P=marks)', re.S)
+DECEIVING = (  # what could make a text say something else than it shows
+    (FOREIGN, "a foreign function, whose contract would be assumed"),
+    (RAW, "a raw string, in which a comment could hide"),
+    (re.compile(r"\btype\s+\w+|(?<!ghost )\buse\b[^;{]*\bas\b"), "another name for a type or a function"),
+    (re.compile(r"#!?\s*\[(?!no_mangle\]|repr\(C\)\])"), "an attribute other than no_mangle and repr(C)"),
+    (re.compile(r"\bmacro_rules\b|\binclude\w*\s*!"), "a macro of its own, or a text of another file"),
+)
+LITERAL = re.compile(RAW.pattern + r"""|b?"(?:\\.|[^"\\])*"|b?'(?:\\.|[^'\\])'""", re.S)
+LITERAL_OR_COMMENT = re.compile(LITERAL.pattern + r"|//[^\n]*|/\*", re.S)
 
 
 @dataclass(frozen=True)
@@ -117,6 +125,8 @@ def add_uses(file, text):
             file.uses.append(path)
             if match.group(1):
                 file.reexports.append("::".join(path))
+    if len(re.findall(r"\buse\b", text)) != len(file.ghosts) + len(file.uses):
+        raise antt.Unreadable("a `use` that does not begin its line")
 
 
 @functools.cache
@@ -125,16 +135,17 @@ def read(text):
     file = File()
     try:
         text = without_comments(text)
-        bare = LITERAL.sub(lambda m: " " * len(m.group()), text)
+        bare = LITERAL.sub(lambda m: m.group() if m.group() == '"C"' else " " * len(m.group()), text)
         inside = owners(bare)
-        for match in FUNCTION.finditer(text):
+        for match in FUNCTION.finditer(bare):
             owner = next((name for start, end, name in inside if start < match.start() < end), "")
             file.functions.append(function_at(text, bare, match, owner))
         for match in TYPE.finditer(bare):
             file.types[match.group(2)] = type_at(text, bare, match)
-        if match := FOREIGN.search(text):
-            file.complaints.append((text.count("\n", 0, match.start()) + 1, "a foreign function, whose contract would be assumed"))
-        add_uses(file, text)
+        for pattern, what in DECEIVING:
+            if match := pattern.search(text if pattern is RAW else bare):
+                file.complaints.append((text.count("\n", 0, match.start()) + 1, what))
+        add_uses(file, bare)
     except antt.Unreadable as trouble:
         file.complaints.append((0, str(trouble)))
     return file

@@ -3,6 +3,7 @@ from listed import antt, listing, names
 from listed.tree import Kit, constructors
 
 CLAIMS = "claims/proofs/"
+KIT_ROOTS = ("package", "Prim", "lib", "mathlib", "native", "borrow", "denote", "mir")  # what the paths of the kit begin with
 
 
 def of_functions(tree):
@@ -38,7 +39,7 @@ def of_uses(tree, protected):
                 yield f"{where}: `use {use.path}`, an axiom"
             if use.path.endswith("*"):
                 yield f"{where}: `use {use.path}` brings names that are not written down"
-            if use.items is None and use.alias.startswith(("Rattle·", "package")):
+            if use.items is None and (use.alias.startswith("Rattle·") or use.alias in KIT_ROOTS and "." in use.path):
                 yield f"{where}: a module is brought in as {use.alias}"
             for item, brought in use.items or ():
                 if item != brought and ("/proofs/" not in path or CLAIMS in path or {item, brought} & protected):

@@ -107,7 +107,10 @@ class Tree:
         """The types that a crate's code declares, each with its text."""
         if crate not in self.declared_types:
             sources = [source for key, source in self.sources.items() if key.startswith(f"{crate}/")]
-            self.declared_types[crate] = {name: text for source in sources for name, text in source.types.items()}
+            declared = [item for source in sources for item in source.types.items()]
+            self.declared_types[crate] = dict(declared)
+            if len(declared) != len(self.declared_types[crate]):
+                self.complain(f"crates/{crate}/src", "two types of one name")
         return self.declared_types[crate]
 
     def place(self, path):

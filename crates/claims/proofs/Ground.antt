@@ -1,9 +1,10 @@
 -- What is claimed of sizes, and of numbers as bytes.
-use Prim.Native.Nat.{_%_, _+_, _/_, _<_, _^_, ℕ}
+use Prim.Native.Nat.{_%_, _+_, _/_, _<_, _^_, _≤_, ℕ}
 use Rattle.ground.specs.Choices.{if_then_else_}
 use Rattle.ground.specs.Lists.{NumberPromise, PutPromise, little}
 use Rattle.ground.specs.Sizes.{BytesPromise, SizePromise, bytesOf, sizeOf}
 use Rattle.ground.specs.declared.Size.{Size}
+use Rattle.ground.specs.declared.Size.the-variants.{B64}
 use mathlib.Core.Bool.{Bool, false, true}
 use mathlib.Core.List.{List}
 use mathlib.Core.Path.{_≡_}
@@ -32,3 +33,7 @@ put-unique = Rattle.ground.proofs.Unique.put-unique
 -- a fact of both sides of a choice, each under its test
 pub if-cases {ℓ κ} : {A : Type ℓ} (P : A → Type κ) (b : Bool) (x y : A) → (b ≡ true → P x) → (b ≡ false → P y) → P (if b then x else y)
 if-cases = Rattle.ground.proofs.Laws.if-cases
+
+-- a field over 3 is read as 3
+pub field-past : (n : ℕ) → 3 ≤ n → sizeOf n ≡ B64
+field-past = Rattle.ground.proofs.Sizes.field-past

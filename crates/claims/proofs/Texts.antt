@@ -3,8 +3,9 @@ use Prim.Native.Nat.{_≤_, ℕ}
 use Rattle.texts.specs.Texts.{AndPromise, DecimalPromise, SamePromise, TextPromise, andOf, bytesIn, empty}
 use Rattle.texts.specs.declared.Text.{Text}
 use lib.ListN.{length}
-use mathlib.Core.Bool.{Bool}
+use mathlib.Core.Bool.{Bool, true}
 use mathlib.Core.List.{List}
+use mathlib.Core.Logic.{_↔_}
 use mathlib.Core.Path.{_≡_}
 
 -- a text of bytes that have room says these bytes
@@ -22,3 +23,7 @@ number-unique = Rattle.texts.proofs.Unique.number-unique
 
 pub same-unique : (t : Text) (s : List ℕ) (a b : Bool) → SamePromise t s a → SamePromise t s b → a ≡ b
 same-unique = Rattle.texts.proofs.Unique.same-unique
+
+-- whether a text says these bytes and no other
+pub same-said : (t : Text) (s : List ℕ) (r : Bool) → SamePromise t s r → (r ≡ true) ↔ (bytesIn t ≡ s)
+same-said = Rattle.texts.proofs.Texts.same-said

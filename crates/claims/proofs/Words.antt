@@ -1,12 +1,13 @@
 -- What is claimed of words: which words decode, and as what; and that a new row does not disturb what is settled.
-use Prim.Native.Nat.{_<_, _^_, ℕ}
+use Prim.Native.Nat.{_<_, _^_, _≤_, ℕ}
 use Rattle.ground.specs.Lists.{listed}
 use Rattle.ground.specs.Pieces.{FitWidths, word}
 use Rattle.ground.specs.declared.Size.{Size}
+use Rattle.ground.specs.declared.Size.the-variants.{B64}
 use Rattle.words.proofs.Apart.{Among, FitsAt, apart, longer, rowAt}
 use Rattle.words.proofs.DtypeRule.{ruleOf}
 use Rattle.words.proofs.NotWanted.{NotWanted, notWantedLayout}
-use Rattle.words.specs.Dtypes.{DtypePromise, dtypeOf, dtypes, plainOf}
+use Rattle.words.specs.Dtypes.{DtypePromise, dtypeOf, dtypes, plainOf, unsignedRow}
 use Rattle.words.specs.Families.{FamilyRow, ReadPromise, families, readBy, readOf}
 use Rattle.words.specs.Insns.{insnWith}
 use Rattle.words.specs.Layouts.{LaidOut, Means}
@@ -99,3 +100,7 @@ read-unique = Rattle.words.proofs.Unique.read-unique
 
 pub dtype-unique : (d : ℕ) (r s : Dtype) → DtypePromise d r → DtypePromise d s → r ≡ s
 dtype-unique = Rattle.words.proofs.Unique.dtype-unique
+
+-- a number that no field of four bits has is read as 15
+pub dtype-past : (d : ℕ) → 16 ≤ d → dtypeOf d ≡ unsignedRow B64 B64
+dtype-past = Rattle.words.proofs.DtypeRule.dtype-past

@@ -7,6 +7,7 @@ use native.Mathlib.Nat.{suc-mul, mul-le-mul-right, lt-of-mul-lt-mul-right, div-m
 use native.Mathlib.Nat.{dvd-trans, le-of-dvd, pos-of-dvd-of-pos, dvd-of-mod-eq-zero, div-mul-cancel}
 use native.Mathlib.Omega.{arith}
 use lib.Dec.{lit<}
+use borrow.Author.Tests.{ne-eqb}
 use Rattle.ground.proofs.Laws.{only-one}
 use Rattle.ground.specs.Sizes.{bytesOf, sizeOf, BytesPromise, SizePromise}
 use Rattle.ground.specs.declared.Size.{Size}
@@ -20,6 +21,11 @@ field-bytes (suc zero) h = refl
 field-bytes (suc (suc zero)) h = refl
 field-bytes (suc (suc (suc zero))) h = refl
 field-bytes (suc (suc (suc (suc n)))) h = absurd (omega arith)
+
+-- a field over 3 is read as 3
+pub field-past : (n : ℕ) → 3 ≤ n → sizeOf n ≡ B64
+unfolding sizeOf
+field-past n h = rw (ne-eqb n 0 (λ e. omega arith), ne-eqb n 1 (λ e. omega arith), ne-eqb n 2 (λ e. omega arith))
 
 pub bytes-unique : (s : Size) (a b : ℕ) → BytesPromise s a → BytesPromise s b → a ≡ b
 bytes-unique s a b p q = only-one p q

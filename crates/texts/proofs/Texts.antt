@@ -3,7 +3,7 @@ use mathlib.Core.Path.{_≡_, refl, sym, _∙_, ap}
 use mathlib.Core.Bool.{Bool, true, false}
 use mathlib.Core.List.{List, [], _∷_, _++_}
 use Prim.Native.Nat.{ℕ, zero, suc, _+_, _-_, _*_, _/_, _^_, _≤_, _<_, min}
-use mathlib.Core.Logic.{⊎-elim}
+use mathlib.Core.Logic.{_↔_, ⊎-elim}
 use native.Mathlib.Nat.{add-zero, zero-add, add-assoc, pow-suc, one-le-pow}
 use native.Mathlib.Omega.{arith}
 use borrow.Author.Tests.{ltb-true, ltb-false, lt-ltb, le-ltb, eqb-true, eq-eqb}
@@ -14,7 +14,7 @@ use Rattle.ground.specs.Lists.{replaced}
 use Rattle.ground.proofs.Laws.{and-left, and-right, and-both, never, off, true-or-false, if-cases}
 use Rattle.ground.proofs.Fills.{back-in, replaced-next}
 use Rattle.io.specs.Digits.{digits, Fewest}
-use Rattle.texts.specs.Texts.{bytesIn, empty, andOf, placesOf, decimalOf, alike}
+use Rattle.texts.specs.Texts.{bytesIn, empty, andOf, placesOf, decimalOf, alike, SamePromise}
 use Rattle.texts.specs.declared.Text.{Text}
 
 -- where there is no room, nothing is put
@@ -127,3 +127,7 @@ alike-same (a ∷ s) (b ∷ t) h = cc (eqb-true a b (and-left (eqb a b) (alike s
 pub tells-alike : (r : Bool) (s t : List ℕ) → (r ≡ true → s ≡ t) → (s ≡ t → r ≡ true) → r ≡ alike s t
 tells-alike true s t f g = rw (f refl) (sym (alike-self t))
 tells-alike false s t f g = sym (off (alike s t) (λ h. never (g (alike-same s t h)) refl))
+
+-- whether a text says these bytes and no other
+pub same-said : (t : Text) (s : List ℕ) (r : Bool) → SamePromise t s r → (r ≡ true) ↔ (bytesIn t ≡ s)
+same-said t s r p = (λ h. alike-same (bytesIn t) s (sym p ∙ h), λ e. p ∙ ap (alike (bytesIn t)) (sym e) ∙ alike-self (bytesIn t))

@@ -60,10 +60,10 @@ dtype-row d h =
 pub dtype-injective : (d e : ℕ) → d < 16 → e < 16 → dtypeOf d ≡ dtypeOf e → d ≡ e
 dtype-injective d e h k same = sym (dtype-row d h) ∙ ap rowOf same ∙ dtype-row e k
 
--- a number that no field of four bits has
-pub past : (d : ℕ) → 16 ≤ d → dtypeOf d ≡ unsignedRow B64 B64
+-- a number that no field of four bits has is read as 15
+pub dtype-past : (d : ℕ) → 16 ≤ d → dtypeOf d ≡ unsignedRow B64 B64
 unfolding dtypeOf
-past d h = List·getD-eq-default dtypes (unsignedRow B64 B64) (rw sixteen h)
+dtype-past d h = List·getD-eq-default dtypes (unsignedRow B64 B64) (rw sixteen h)
 
 -- what is read fits its lane, whatever the number
 pub never-wider : (d : ℕ) → bytesOf (dtypeOf d .memory) ≤ bytesOf (dtypeOf d .lane)
