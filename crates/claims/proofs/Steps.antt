@@ -37,7 +37,7 @@ pub lent-areas : (l : Lent) (b : Bench)
       flash = record { start = l .map .flash .0; bytes = l .flash; rights = l .flashRights };
       ram = record { start = l .map .ram .0; bytes = b .ram; rights = l .ramRights };
     }
-lent-areas = Rattle.steps.proofs.Promise.lent-areas
+lent-areas = Rattle.steps.proofs.Terms.lent-areas
 
 -- "33 numbers of 64 bits: X0 to X30, SP, PC": number n is the n-th, from 0
 pub scalar-said : (x : List ℕ) (n : ℕ) → scalar x n ≡ getD x n 0

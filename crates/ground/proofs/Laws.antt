@@ -12,10 +12,10 @@ use lib.Pow.{pow-add}
 use lib.Dec.{eqb, ltb, lit<}
 use lib.ListN.{length, getD, take, drop, length-append, length-take, length-drop, List·getD-append}
 use lib.Seq.{getD-take, getD-drop, getD-append-add}
-use borrow.Author.Tests.{eqb-true, eqb-false, ltb-true}
+use borrow.Author.Tests.{eqb-true, eqb-false, eq-eqb, ltb-true}
 use mathlib.Core.Logic.{_⊎_, inl, inr}
 use Rattle.ground.specs.Choices.{if_then_else_, andAll, allOf, Row, firstOf}
-use Rattle.ground.specs.Lists.{listed, anyBelow, little, EachBelow, replaced}
+use Rattle.ground.specs.Lists.{listed, anyBelow, little, alike, EachBelow, replaced}
 
 -- two results that meet one equation are one
 pub only-one {ℓ} : {A : Type ℓ} {a b c : A} → a ≡ c → b ≡ c → a ≡ b
@@ -117,6 +117,17 @@ pub all-at : {A : Type 0} (f : A → Bool) (l : List A) (d : A) → all f l ≡ 
 all-at f [] d h k i = k
 all-at f (a ∷ l) d h k zero = and-left (f a) (all f l) h
 all-at f (a ∷ l) d h k (suc i) = all-at f l d (and-right (f a) (all f l) h) k i
+
+-- the same lists are alike, and no others
+pub alike-self : (s : List ℕ) → alike s s ≡ true
+alike-self [] = refl
+alike-self (a ∷ s) = and-both (eqb a a) (alike s s) (eq-eqb a a refl) (alike-self s)
+
+pub alike-same : (s t : List ℕ) → alike s t ≡ true → s ≡ t
+alike-same [] [] h = refl
+alike-same [] (b ∷ t) h = never h refl
+alike-same (a ∷ s) [] h = never h refl
+alike-same (a ∷ s) (b ∷ t) h = cc (eqb-true a b (and-left (eqb a b) (alike s t) h), alike-same s t (and-right (eqb a b) (alike s t) h))
 
 pub each-below : (n : ℕ) (s : List ℕ) → ltb 0 n ≡ true → all (λ x. ltb x n) s ≡ true → EachBelow n s
 each-below n s some h = λ k. ltb-true _ n (all-at (λ x. ltb x n) s 0 h some k)

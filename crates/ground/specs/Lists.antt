@@ -1,8 +1,9 @@
 -- Lists made of a function of the index, what holds below a number, and numbers as bytes.
 use Prim.Native.Nat.{ℕ, zero, suc, _+_, _*_, _/_, _%_, _^_, _<_, min}
 use mathlib.Core.Path.{_≡_}
-use mathlib.Core.Bool.{Bool, false, _||_}
+use mathlib.Core.Bool.{Bool, true, false, _&&_, _||_}
 use mathlib.Core.List.{List, [], _∷_, _++_}
+use lib.Dec.{eqb}
 use lib.ListN.{length, getD, take, drop}
 use Rattle.ground.specs.Choices.{if_then_else_}
 
@@ -29,6 +30,13 @@ little f i (suc n) = f i + 256 * little f (i + 1) n
 -- the number that n bytes of a list make from a place on
 abbrev pub bytesAt : List ℕ → ℕ → ℕ → ℕ
 bytesAt s at n = little (λ j. getD s (at + j) 0) 0 n
+
+-- whether two lists are the same
+abbrev pub alike : List ℕ → List ℕ → Bool
+alike [] [] = true
+alike [] (b ∷ t) = false
+alike (a ∷ s) [] = false
+alike (a ∷ s) (b ∷ t) = eqb a b && alike s t
 
 -- every number of a list is below n; one that is not there counts as 0
 abbrev pub EachBelow : ℕ → List ℕ → Type 0

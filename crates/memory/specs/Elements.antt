@@ -1,4 +1,4 @@
--- What reading an element finds, over any memory: a function from addresses to cells.
+-- What reading an element finds, over any memory: a function from addresses to cells. `element` promises it of the two areas.
 use mathlib.Core.Path.{_≡_}
 use Prim.Native.Nat.{ℕ, zero, suc, _+_, _*_}
 use Rattle.ground.specs.declared.Size.{Size}

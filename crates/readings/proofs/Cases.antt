@@ -6,7 +6,7 @@ use mathlib.Core.List.{List, [], _∷_, _++_}
 use lib.Dec.{eqb}
 use lib.ListN.{replicate}
 use Rattle.ground.specs.Choices.{if_then_else_}
-use Rattle.ground.specs.Lists.{listed}
+use Rattle.ground.specs.Lists.{listed, alike}
 use Rattle.memory.specs.declared.Map.{Map}
 use Rattle.steps.specs.Answers.{Report}
 use Rattle.steps.specs.Benches.{Lent, Bench}
@@ -33,12 +33,6 @@ Ended c = stepOf (c .lent) (c .word) (c .bench) ≡ expected c
 
 -- Comparing, which can be computed: every number of an outcome, and the length of every list. Tests.antt says that what passes is equal.
 
-abbrev pub sameNumbers : List ℕ → List ℕ → Bool
-sameNumbers [] [] = true
-sameNumbers [] (y ∷ ys) = false
-sameNumbers (x ∷ xs) [] = false
-sameNumbers (x ∷ xs) (y ∷ ys) = eqb x y && sameNumbers xs ys
-
 abbrev pub sameBool : Bool → Bool → Bool
 sameBool true b = b
 sameBool false b = not b
@@ -57,18 +51,18 @@ sameMap m n = eqb (m .flash .0) (n .flash .0) && eqb (m .ram .0) (n .ram .0)
 abbrev pub sameLent : Lent → Lent → Bool
 sameLent l k =
     sameSettings (l .settings) (k .settings)
-    && sameNumbers (l .predicates) (k .predicates)
+    && alike (l .predicates) (k .predicates)
     && sameMap (l .map) (k .map)
-    && sameNumbers (l .flash) (k .flash)
-    && sameNumbers (l .flashRights) (k .flashRights)
-    && sameNumbers (l .ramRights) (k .ramRights)
+    && alike (l .flash) (k .flash)
+    && alike (l .flashRights) (k .flashRights)
+    && alike (l .ramRights) (k .ramRights)
 
 abbrev pub outcomeFits : StarredCase → Outcome → Bool
 outcomeFits c o =
     sameReport (o .report) (c .report)
-    && sameNumbers (o .bench .vectors) (c .vectors)
-    && sameNumbers (o .bench .scalars) (c .scalars)
-    && sameNumbers (o .bench .ram) (c .bench .ram)
+    && alike (o .bench .vectors) (c .vectors)
+    && alike (o .bench .scalars) (c .scalars)
+    && alike (o .bench .ram) (c .bench .ram)
     && sameLent (o .lent) (c .lent)
 
 abbrev pub isRight : StarredCase → Bool

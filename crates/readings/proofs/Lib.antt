@@ -5,3 +5,4 @@ pub mod Tables
 pub mod Starred
 pub mod Pairs
 pub mod Witnesses
+pub mod Refusals

@@ -9,7 +9,7 @@ use lib.Dec.{eqb}
 use lib.ListN.{length}
 use borrow.Author.Tests.{eqb-true, eq-eqb, not-true}
 use Rattle.ground.specs.Choices.{allOf}
-use Rattle.ground.specs.Lists.{anyBelow, replaced}
+use Rattle.ground.specs.Lists.{anyBelow, alike, replaced}
 use Rattle.ground.specs.Sizes.{bytesOf, sizeOf}
 use Rattle.ground.proofs.Laws.{all, all-of, any-of, and-both, true-or-false, never}
 use Rattle.words.specs.Dtypes.{dtypes, dtypeOf}
@@ -37,7 +37,7 @@ use Rattle.steps.proofs.Accepts.{accepted-exactly}
 use Rattle.steps.proofs.Touches.{touched-exactly, same-exactly, rights-exactly, bytes-exactly}
 use Rattle.steps.proofs.Promise.{promise-met}
 use Rattle.steps.proofs.Demand3.{demand-3-answer, demand-3-end}
-use Rattle.readings.proofs.Cases.{sameNumbers, sameBool, sameReport, only, _≔_, zoneWith, empty, page, allOn, SetUp, setUpWith}
+use Rattle.readings.proofs.Cases.{sameBool, sameReport, only, _≔_, zoneWith, empty, page, allOn, SetUp, setUpWith}
 use Rattle.readings.proofs.Cases.{lentBy, benchBy, rising, nines, zeros}
 use Rattle.readings.proofs.Tests.{switches, typeTests, in-types}
 use Rattle.readings.proofs.Tables.{EachOf, each-of}
@@ -103,8 +103,8 @@ tests p =
     ∷ sameBool (sameOn sameBool rightAt p (p .differ)) (p .right)
     ∷ eqb (o .report .number) 0
     ∷ sameReport (o .report) (o′ .report)
-    ∷ sameNumbers (o .bench .vectors) (o′ .bench .vectors)
-    ∷ sameNumbers (o .bench .scalars) (o′ .bench .scalars)
+    ∷ alike (o .bench .vectors) (o′ .bench .vectors)
+    ∷ alike (o .bench .scalars) (o′ .bench .scalars)
     ∷ allOf (typeTests (second p) (p .word) (other p))
     ∷ []
 

@@ -1,28 +1,22 @@
 -- What can be computed of a case: a comparison that holds says that the two are equal, so that the readings can be settled by computing it; and a bench
 -- whose numbers are small enough is one that can come in.
 use mathlib.Core.Path.{_≡_, refl, sym}
-use mathlib.Core.Bool.{Bool, true, false, _&&_}
+use mathlib.Core.Bool.{Bool, true, false}
 use mathlib.Core.List.{List, [], _∷_}
 use Prim.Native.Nat.{ℕ, _^_}
 use lib.Dec.{eqb, ltb}
 use borrow.Author.Tests.{eqb-true, ltb-true, not-true}
 use Rattle.ground.specs.Choices.{allOf}
-use Rattle.ground.proofs.Laws.{never, and-left, and-right, all, all-of, each-below}
+use Rattle.ground.proofs.Laws.{and-left, and-right, all, all-of, alike-same, each-below}
 use Rattle.memory.specs.declared.Map.{Map}
 use Rattle.steps.specs.Answers.{Report}
 use Rattle.steps.specs.Benches.{Lent, Bench, InTypes}
 use Rattle.steps.specs.Outcomes.{Outcome}
 use Rattle.steps.specs.declared.Settings.{Settings}
-use Rattle.readings.proofs.Cases.{StarredCase, expected, Ended, sameNumbers, sameBool, sameReport, sameSettings, sameMap, sameLent, outcomeFits, isRight}
+use Rattle.readings.proofs.Cases.{StarredCase, expected, Ended, sameBool, sameReport, sameSettings, sameMap, sameLent, outcomeFits, isRight}
 
 -- what the tests of a conjunction say
 ruleset met = (eqb-true, and-left, and-right)
-
-numbers : (xs ys : List ℕ) → sameNumbers xs ys ≡ true → xs ≡ ys
-numbers [] [] h = refl
-numbers [] (y ∷ ys) h = never h refl
-numbers (x ∷ xs) [] h = never h refl
-numbers (x ∷ xs) (y ∷ ys) h = λ i. eqb-true x y (and-left (eqb x y) _ h) i ∷ numbers xs ys (and-right (eqb x y) _ h) i
 
 pub switches : (a b : Bool) → sameBool a b ≡ true → a ≡ b
 switches true b h = sym h
@@ -53,19 +47,19 @@ maps m n h =
 lents : (l k : Lent) → sameLent l k ≡ true → l ≡ k
 lents l k h =
     let s : l .settings ≡ k .settings = search (settings, met) in
-    let p : l .predicates ≡ k .predicates = search (numbers, met) in
+    let p : l .predicates ≡ k .predicates = search (alike-same, met) in
     let m : l .map ≡ k .map = search (maps, met) in
-    let f : l .flash ≡ k .flash = search (numbers, met) in
-    let g : l .flashRights ≡ k .flashRights = search (numbers, met) in
-    let r : l .ramRights ≡ k .ramRights = search (numbers, met) in
+    let f : l .flash ≡ k .flash = search (alike-same, met) in
+    let g : l .flashRights ≡ k .flashRights = search (alike-same, met) in
+    let r : l .ramRights ≡ k .ramRights = search (alike-same, met) in
     λ i. record { settings = s i; predicates = p i; map = m i; flash = f i; flashRights = g i; ramRights = r i }
 
 fits : (c : StarredCase) (o : Outcome) → outcomeFits c o ≡ true → o ≡ expected c
 fits c o h =
     let r : o .report ≡ c .report = search (reports, met) in
-    let z : o .bench .vectors ≡ c .vectors = search (numbers, met) in
-    let x : o .bench .scalars ≡ c .scalars = search (numbers, met) in
-    let m : o .bench .ram ≡ c .bench .ram = search (numbers, met) in
+    let z : o .bench .vectors ≡ c .vectors = search (alike-same, met) in
+    let x : o .bench .scalars ≡ c .scalars = search (alike-same, met) in
+    let m : o .bench .ram ≡ c .bench .ram = search (alike-same, met) in
     let l : o .lent ≡ c .lent = search (lents, met) in
     λ i. record { report = r i; lent = l i; bench = record { vectors = z i; scalars = x i; ram = m i } }
 

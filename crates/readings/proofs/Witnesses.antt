@@ -1,13 +1,13 @@
 -- Each premise of a demand can be met. A row below is a load, a bench and a lane for which all premises of a theorem of demand 2 hold together: a family a
--- row, and with it demand-1-counted, demand-2, -count and -determined; its shape is the premise of its address formula. A second table has a bench for
--- each answer but 0, which demand-1-kept speaks of.
+-- row, and with it demand-1-counted, demand-2, -count and -determined; its shape is the premise of its address formula. Benches that earn
+-- any other answer than "ran" stand in Refusals.
 --
 -- No witness is needed of a premise that a theorem has met: StepPromise has an outcome for any input that its types can hold (`promise-met`); `Ready` and
 -- `AllReadable` together are exactly "it ran" (`demand-2-runs`); `Given` is exactly the report (`demand-1`); `Leaves` is what the step leaves (`demand-2`),
 -- and nothing else (`demand-2-determined`). The pairs of demand 3 stand in Pairs.
 use Prim.Native.Nat.{ℕ, zero, suc, _-_, _*_, _/_, _%_, _^_, _≤_, _<_}
 use lib.ListN.{length, replicate}
-use mathlib.Core.Path.{_≡_, refl, sym, ap, subst, _∙_}
+use mathlib.Core.Path.{_≡_, refl, sym, ap, subst}
 use mathlib.Core.Bool.{Bool, true, false}
 use mathlib.Core.List.{List, [], _∷_}
 use native.Mathlib.Omega.{arith}
@@ -15,9 +15,8 @@ use lib.Dec.{ltb, eqb}
 use borrow.Author.Tests.{eqb-true, ltb-true}
 use Rattle.ground.specs.Choices.{allOf}
 use Rattle.ground.specs.Sizes.{sizeOf}
-use Rattle.ground.specs.declared.Size.{Size}
 use Rattle.ground.specs.declared.Size.the-variants.{B8, B64}
-use Rattle.ground.proofs.Laws.{all, all-of, never, _&_}
+use Rattle.ground.proofs.Laws.{all-of, never, _&_}
 use Rattle.words.specs.Dtypes.{dtypes, dtypeOf}
 use Rattle.words.specs.Families.{scalarOf, families, readOf}
 use Rattle.memory.specs.Addresses.{wrapℤ, movedOf}
@@ -26,7 +25,7 @@ use Rattle.memory.specs.Bytes.{judged, lookOf}
 use Rattle.memory.specs.Elements.{readingOf}
 use Rattle.memory.specs.declared.Reading.{Reading}
 use Rattle.memory.specs.declared.Reading.the-variants.{Value}
-use Rattle.steps.specs.Insns.{Insn, Shape, Replicate, ByElement, Contiguous, Block, Governing, None, By, Offset, Imm, Reg, Back, Keep, Post, Decoded, Is}
+use Rattle.steps.specs.Insns.{Insn, Shape, Replicate, ByElement, Contiguous, Block, None, By, Offset, Imm, Reg, Back, Keep, Post, Is}
 use Rattle.steps.specs.Benches.{Lent, Bench, InTypes, isAccepted}
 use Rattle.steps.specs.Terms.{signed4}
 use Rattle.steps.specs.Plans.{spreadOf, planOf}
@@ -36,10 +35,10 @@ use Rattle.steps.specs.Step.{stackFails, refusals, plannedLoad, plannedOf, prep
 use Rattle.steps.specs.Said.{laneBytes, N, K, copies, LaneActive, Active, lies}
 use Rattle.steps.specs.Answers.{Report}
 use Rattle.steps.specs.Demand1 as G
-use Rattle.steps.specs.Demand1.{Ready, AllReadable, Counted, elementLimit, Given}
+use Rattle.steps.specs.Demand1.{Ready, AllReadable, Counted, elementLimit}
 use Rattle.steps.specs.Demand2.{laneIn, Leaves, Done}
 use Rattle.steps.specs.declared.StepResult.{StepResult}
-use Rattle.steps.proofs.Demand1.{demand-1-kept, demand-1-promise, demand-1-counted}
+use Rattle.steps.proofs.Demand1.{demand-1-promise, demand-1-counted}
 use Rattle.steps.proofs.Demand2.{demand-2, demand-2-promise, demand-2-runs, demand-2-determined, demand-2-count}
 use Rattle.steps.proofs.Demand2.{ld1-immediate, ld1-scalar, ld1rq-immediate, ld1ro-immediate, block-scalar, ld1r-by-element, ld1r}
 use Rattle.steps.specs.declared.Plan.{Plan}
@@ -47,10 +46,10 @@ use Rattle.steps.proofs.Demand3.{demand-3-faults, demand-3-apart}
 use Rattle.steps.proofs.Promise.{promise-met}
 use Rattle.steps.proofs.Touches.{ran-as}
 use Rattle.steps.proofs.Demand2.{inactive-zero, element-inactive-zero, block-inactive-zero, left-over-zero, rest-zero}
-use Rattle.readings.proofs.Cases.{only, allActive, _≔_, sp, zoneWith, empty, page, allOn, sveOff, SetUp, setUpWith, lentBy, benchBy}
-use Rattle.readings.proofs.Cases.{rising, plain}
+use Rattle.readings.proofs.Cases.{only, _≔_, empty, page, allOn, SetUp, setUpWith, lentBy, benchBy}
+use Rattle.readings.proofs.Cases.{rising}
 use Rattle.readings.proofs.Tests.{typeTests, in-types}
-use Rattle.readings.proofs.Tables.{EachOf, each-of}
+use Rattle.readings.proofs.Tables.{EachOf}
 
 -- the theorems of demand 2 by which a lane becomes zero, and the premise of each beside "it ran" and "k is one of its lanes"
 pub data Law : Type 0 where
@@ -262,66 +261,3 @@ mixed-asked (suc (suc e)) h t = absurd (omega arith)
 pub apart-met : let l = lentBy (lane0 128) in let b = benchBy (lane0 128) in outcomeOf zeros l b lanePlan ≡ outcomeOf mixed l b lanePlan
 unfolding spreadOf
 apart-met = demand-3-apart zeros mixed (lentBy (lane0 128)) (benchBy (lane0 128)) lanePlan (omega arith) mixed-asked
-
--- a word and a bench that earn an answer, by its number
-pub record Refused : Type 0 where
-  pub number : ℕ
-  pub word : ℕ
-  pub setUp : SetUp
-
-abbrev refusing : ℕ → ℕ → SetUp → Refused
-refusing n w u = record { number = n; word = w; setUp = u }
-
-abbrev pub refused : List Refused
-refused =
-    -- VL 0; a word of no family; LD1D, scalar, with Rm = 31; LD1ROD with SVE off
-    refusing 1 0xA5E0A000 (plain (allOn 0))
-    ∷ refusing 2 0x00000000 (plain (allOn 128))
-    ∷ refusing 3 0xA5FF4000 (plain (allOn 128))
-    ∷ refusing 4 0xA5A02000 (plain (sveOff 256))
-    -- LD1R {V0.16B}, [SP] with SP = 4,104; LD1D by X1, which is in neither area; LD1D from a page that has every bit of its rights but bit 0
-    ∷ refusing 5 0x4D40C3E0 (setUpWith (allOn 128) (allActive 128) (page (rising 1 32)) empty (sp ≔ 4104 ∷ []))
-    ∷ refusing 6 0xA5E0A020 (plain (allOn 128))
-    ∷ refusing 7 0xA5E0A000 (setUpWith (allOn 128) (allActive 128) (zoneWith 4096 (rising 1 32) (254 ∷ [])) empty (0 ≔ 4096 ∷ []))
-    ∷ []
-
--- it is told, and is not 0; the bench is as it was; and so says the promise, with document 01's row
-pub record Kept (r : Refused) : Type 0 where
-  pub told : stepOf (lentBy (r .setUp)) (r .word) (benchBy (r .setUp)) .report .number ≡ r .number
-  pub some : 0 < r .number
-  pub lent : stepOf (lentBy (r .setUp)) (r .word) (benchBy (r .setUp)) .lent ≡ lentBy (r .setUp)
-  pub bench : stepOf (lentBy (r .setUp)) (r .word) (benchBy (r .setUp)) .bench ≡ benchBy (r .setUp)
-  pub given : Given (lentBy (r .setUp)) (r .word) (benchBy (r .setUp)) (stepOf (lentBy (r .setUp)) (r .word) (benchBy (r .setUp)) .report)
-
-abbrev refusedTests : Refused → List Bool
-refusedTests r =
-    eqb (stepOf (lentBy (r .setUp)) (r .word) (benchBy (r .setUp)) .report .number) (r .number)
-    ∷ ltb 0 (r .number)
-    ∷ allOf (typeTests (lentBy (r .setUp)) (r .word) (benchBy (r .setUp)))
-    ∷ []
-
-abbrev isRefused : Refused → Bool
-isRefused r = allOf (refusedTests r)
-
-kept : (r : Refused) → isRefused r ≡ true → Kept r
-kept r h =
-    let c = all-of (refusedTests r) h in
-    let l = lentBy (r .setUp) in
-    let b = benchBy (r .setUp) in
-    let n : stepOf l (r .word) b .report .number ≡ r .number = eqb-true _ _ (c 0) in
-    let some : 0 < r .number = ltb-true 0 _ (c 1) in
-    let came = in-types l (r .word) b (c 2) in
-    let k = demand-1-kept l (r .word) b (λ z. omega arith) in
-    let p = promise-met l (r .word) b came in
-    let g = demand-1-promise l (r .word) b (p .0) _ _ (p .1) .0 _ .1 (ap (λ (o : Outcome). o .report) (p .1 .ends)) in
-    record { told = n; some = some; lent = k .0; bench = k .1; given = g }
-
-computed : all isRefused refused ≡ true
-unfolding sizeOf dtypes dtypeOf scalarOf families readOf movedOf isAreaAccepted shareNone areAreasAccepted covers placeOf judged lookOf readingOf
-    isAccepted signed4 spreadOf governingBytes bitOf isActive wanted asked laneTakes elementAt answersIn surveyOf outcomeOf checksStack stackFails
-    refusals plannedLoad plannedOf preparedOf stepOf
-computed = refl
-
--- each answer but 0 is given, and keeps the bench
-pub each-refused : EachOf Kept refused
-each-refused = each-of Kept isRefused kept refused computed

@@ -2,7 +2,7 @@
 use mathlib.Core.Path.{_≡_, refl, ap}
 use Prim.Native.Nat.{ℕ}
 use Rattle.ground.proofs.Laws.{only-one}
-use Rattle.steps.specs.Benches.{Lent, Bench, InTypes, areasIn}
+use Rattle.steps.specs.Benches.{Lent, Bench, InTypes}
 use Rattle.steps.specs.Outcomes.{Outcome}
 use Rattle.steps.specs.Step.{stepOf, StepPromise}
 use Rattle.steps.specs.declared.StepResult.{StepResult}
@@ -21,12 +21,3 @@ pub promise-met : (l : Lent) (w : ℕ) (b : Bench) → InTypes l w b → (r : St
 promise-met l w b t =
     let told = met l w b (t .word) in
     (resultOf (stepOf l w b .report), record { came = t; ends = λ i. record { report = told i; lent = stepOf l w b .lent; bench = stepOf l w b .bench } })
-
--- The answers' cases are document 01's numbers: `answers-told` of Unique. The areas that the statements speak of are those lent.
-pub lent-areas : (l : Lent) (b : Bench)
-    → areasIn l b
-    ≡ record {
-      flash = record { start = l .map .flash .0; bytes = l .flash; rights = l .flashRights };
-      ram = record { start = l .map .ram .0; bytes = b .ram; rights = l .ramRights };
-    }
-lent-areas l b = refl

@@ -5,6 +5,7 @@ use mathlib.Core.Bool.{true, false}
 use mathlib.Core.List.{List}
 use Prim.Native.Nat.{ℕ, _*_}
 use lib.ListN.{getD}
+use Rattle.steps.specs.Benches.{Lent, Bench, areasIn}
 use Rattle.steps.specs.Answers.{reportWith}
 use Rattle.steps.specs.Terms.{scalar, blockBytes}
 
@@ -19,3 +20,12 @@ block-said = (refl, refl)
 -- an answer's number, count, element and address
 pub report-parts : (n c e a : ℕ) → let r = reportWith n c e a in (r .number ≡ n) × (r .count ≡ c) × (r .element ≡ e) × (r .address ≡ a)
 report-parts n c e a = (refl, refl, refl, refl)
+
+-- the areas that the statements speak of are those lent
+pub lent-areas : (l : Lent) (b : Bench)
+    → areasIn l b
+    ≡ record {
+      flash = record { start = l .map .flash .0; bytes = l .flash; rights = l .flashRights };
+      ram = record { start = l .map .ram .0; bytes = b .ram; rights = l .ramRights };
+    }
+lent-areas l b = refl

@@ -1,20 +1,20 @@
 -- What is behind a text, how many digits a number has, and whether two lists are the same.
 use mathlib.Core.Path.{_≡_, refl, sym, _∙_, ap}
 use mathlib.Core.Bool.{Bool, true, false}
-use mathlib.Core.List.{List, [], _∷_, _++_}
+use mathlib.Core.List.{List, _++_}
 use Prim.Native.Nat.{ℕ, zero, suc, _+_, _-_, _*_, _/_, _^_, _≤_, _<_, min}
 use mathlib.Core.Logic.{_↔_, ⊎-elim}
 use native.Mathlib.Nat.{add-zero, zero-add, add-assoc, pow-suc, one-le-pow}
 use native.Mathlib.Omega.{arith}
-use borrow.Author.Tests.{ltb-true, ltb-false, lt-ltb, le-ltb, eqb-true, eq-eqb}
-use lib.Dec.{eqb, ltb, lit<}
+use borrow.Author.Tests.{ltb-true, ltb-false, lt-ltb, le-ltb}
+use lib.Dec.{ltb, lit<}
 use lib.ListN.{length, take, drop, take-append-drop, length-append}
 use lib.Seq.{take-all, take-length, take-append-add, take-append-le, take-append-seam}
-use Rattle.ground.specs.Lists.{replaced}
-use Rattle.ground.proofs.Laws.{and-left, and-right, and-both, never, off, true-or-false, if-cases}
+use Rattle.ground.specs.Lists.{alike, replaced}
+use Rattle.ground.proofs.Laws.{never, off, true-or-false, if-cases, alike-self, alike-same}
 use Rattle.ground.proofs.Fills.{back-in, replaced-next}
 use Rattle.io.specs.Digits.{digits, Fewest}
-use Rattle.texts.specs.Texts.{bytesIn, empty, andOf, placesOf, decimalOf, alike, SamePromise}
+use Rattle.texts.specs.Texts.{bytesIn, empty, andOf, placesOf, decimalOf, SamePromise}
 use Rattle.texts.specs.declared.Text.{Text}
 
 -- where there is no room, nothing is put
@@ -112,16 +112,6 @@ pub all-there : (xs : List ℕ) (n : ℕ) → length xs ≡ 128 → take (min n 
 all-there xs n size =
     ⊎-elim (λ t. let low : min n 128 ≡ n = omega (arith, ltb-true n 128 t) in rw low)
     (λ t. take-all (min n 128) xs (omega (arith, ltb-false n 128 t)) ∙ sym (take-all n xs (omega (arith, ltb-false n 128 t)))) (true-or-false (ltb n 128))
-
-alike-self : (s : List ℕ) → alike s s ≡ true
-alike-self [] = refl
-alike-self (a ∷ s) = and-both (eqb a a) (alike s s) (eq-eqb a a refl) (alike-self s)
-
-alike-same : (s t : List ℕ) → alike s t ≡ true → s ≡ t
-alike-same [] [] h = refl
-alike-same [] (b ∷ t) h = never h refl
-alike-same (a ∷ s) [] h = never h refl
-alike-same (a ∷ s) (b ∷ t) h = cc (eqb-true a b (and-left (eqb a b) (alike s t) h), alike-same s t (and-right (eqb a b) (alike s t) h))
 
 -- an answer that is true of equal lists, and of no others
 pub tells-alike : (r : Bool) (s t : List ℕ) → (r ≡ true → s ≡ t) → (s ≡ t → r ≡ true) → r ≡ alike s t

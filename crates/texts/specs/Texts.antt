@@ -1,12 +1,12 @@
 -- A text: what it says, with more behind it, and a number in decimal.
 use Prim.Native.Nat.{ℕ, zero, suc, _+_, _-_, _/_, min}
 use mathlib.Core.Path.{_≡_}
-use mathlib.Core.Bool.{Bool, true, false, _&&_}
-use mathlib.Core.List.{List, [], _∷_}
-use lib.Dec.{eqb, ltb}
+use mathlib.Core.Bool.{Bool}
+use mathlib.Core.List.{List}
+use lib.Dec.{ltb}
 use lib.ListN.{length, take, replicate}
 use Rattle.ground.specs.Choices.{if_then_else_}
-use Rattle.ground.specs.Lists.{replaced}
+use Rattle.ground.specs.Lists.{alike, replaced}
 use Rattle.io.specs.Digits.{digits}
 use Rattle.texts.specs.declared.Text.{Text}
 
@@ -29,13 +29,6 @@ placesOf (suc n) v = if ltb v 10 then 1 else suc (placesOf n (v / 10))
 -- a number in decimal
 unfoldable pub decimalOf : ℕ → List ℕ
 decimalOf v = digits 10 (placesOf v v) v
-
--- whether two lists are the same
-abbrev pub alike : List ℕ → List ℕ → Bool
-alike [] [] = true
-alike [] (b ∷ t) = false
-alike (a ∷ s) [] = false
-alike (a ∷ s) (b ∷ t) = eqb a b && alike s t
 
 -- what `Text::of` promises: a text of these bytes
 abbrev pub TextPromise : List ℕ → Text → Type 0

@@ -1,7 +1,6 @@
 -- `step` meets its contract, StepPromise: what the set-up is tested for is the definition's, and then the word decides.
 use mathlib.Core.Path.{refl, _∙_}
 use mathlib.Core.Logic.{⊎-elim}
-use Prim.Native.Nat.{ℕ}
 use native.Mathlib.Omega.{arith}
 use Rattle.ground.proofs.Laws.{and-both}
 use Rattle.steps.specs.Benches.{InTypes}
