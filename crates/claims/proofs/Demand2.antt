@@ -87,7 +87,8 @@ imm4-signed = Rattle.steps.proofs.Demand2.imm4-signed
 -- base + (imm4 × N + e) × m
 pub ld1-immediate : (l : Lent) (x : List ℕ) (i : Insn) → (imm4 : ℕ) → i .shape ≡ Contiguous (Imm imm4) → (e : ℕ)
     → elementAt (planOf (l .settings .vl) x i) e
-    ≡ wrapℤ (pos (scalar x (i .base)) +ℤ (signed4 imm4 *ℤ pos (l .settings .vl / (8 * bytesOf (i .element .lane))) +ℤ pos e) *ℤ pos (bytesOf (i .element .memory)))
+    ≡ wrapℤ (pos (scalar x (i .base)) +ℤ (signed4 imm4 *ℤ pos (l .settings .vl / (8 * bytesOf (i .element .lane))) +ℤ pos e) *ℤ pos
+    (bytesOf (i .element .memory)))
 ld1-immediate = Rattle.steps.proofs.Demand2.ld1-immediate
 
 -- base + (Xm + e) × m
