@@ -1,14 +1,15 @@
 -- What is answered to the bytes of a case, and what the lent bytes of the outcome then hold.
 use Prim.Native.Nat.{ℕ}
 use mathlib.Core.Path.{_≡_}
-use mathlib.Core.List.{List, _++_}
-use lib.Dec.{ltb}
+use mathlib.Core.List.{List, [], _∷_, _++_}
+use lib.Dec.{ltb, eqb}
 use lib.ListN.{length, drop}
-use Rattle.ground.specs.Choices.{if_then_else_}
+use Rattle.ground.specs.Choices.{if_then_else_, _⇒_, firstOf}
 use Rattle.steps.specs.Step.{stepOf}
 use Rattle.cases.specs.Heads.{openedOf}
-use Rattle.cases.specs.Parts.{lentIn, benchIn, caseBytes}
-use Rattle.cases.specs.Outcomes.{outcomeBytes, outcomeLength}
+use Rattle.cases.specs.Parts.{vectorsIn, lentIn, benchIn, areasIn, caseBytes}
+use Rattle.cases.specs.Outcomes.{outcomeBytes, windowBytes, outcomeLength}
+use Rattle.cases.specs.Windows.{addressTold, laneTold}
 use Rattle.cases.specs.declared.heads.Case.{Case}
 use Rattle.cases.specs.declared.heads.Refusal.the-variants.{Ends, Room}
 use Rattle.cases.specs.declared.heads.Opened.{Opened}
@@ -20,9 +21,19 @@ pub record After : Type 0 where
   pub answer : Answered
   pub out : List ℕ
 
--- the outcome of a step of what the case lends, over the first bytes of what is lent for it
+-- what a case asks: one step of what it lends, where an address lies, or what a lane holds; no other kind begins a case
+unfoldable pub answerIn : List ℕ → Case → List ℕ
+answerIn s c =
+    let q = c .question in
+    firstOf
+    ((eqb (q .kind) 0 ⇒ outcomeBytes (stepOf (lentIn s c) (c .word) (benchIn s c)))
+    ∷ (eqb (q .kind) 2 ⇒ windowBytes (addressTold (areasIn s c) q))
+    ∷ [])
+    (windowBytes (laneTold (c .settings .vl) (vectorsIn s c) q))
+
+-- .. over the first bytes of what is lent for it
 unfoldable pub outcomeIn : List ℕ → Case → List ℕ → List ℕ
-outcomeIn s c out = outcomeBytes (stepOf (lentIn s c) (c .word) (benchIn s c)) ++ drop (outcomeLength c) out
+outcomeIn s c out = answerIn s c ++ drop (outcomeLength c) out
 
 -- "A stream that ends inside a case": nothing is written for it. Nor is it where the outcome has no room.
 unfoldable pub onCase : List ℕ → List ℕ → Case → After

@@ -2,5 +2,6 @@
 pub mod Parts
 pub mod Heads
 pub mod Outcomes
+pub mod Windows
 pub mod Answers
 pub mod Inside

@@ -1,18 +1,19 @@
-// What lies behind a head: its parts lent to a step, and the outcome written.
+// One step, asked by a case: its parts lent to the step, and the outcome written.
 use crate::heads::Case;
+use crate::heads::head_bytes;
+use crate::outcomes::put_numbers;
+use crate::outcomes::put_report;
+use crate::outcomes::step_told;
 use ground::number;
 use steps::StepResult;
 ghost use mathlib.Core.Path.{_≡_};
 ghost use Prim.Native.Nat.{_+_, _*_, _≤_};
-ghost use mathlib.Core.List.{_++_};
-ghost use lib.ListN.{length, drop};
+ghost use lib.ListN.{length};
 ghost use Rattle.ground.specs.Lists.{listed, bytesAt};
-ghost use Rattle.steps.specs.Answers.{reportOf};
 ghost use Rattle.steps.specs.Step.{StepPromise};
 ghost use Rattle.bench.specs.Lends.{benchOf};
 ghost use Rattle.cases.specs.Parts.{partAt, ramAt, caseBytes, lentIn, benchIn};
-ghost use Rattle.cases.specs.Outcomes.{eights, reportBytes, outcomeLength};
-ghost use Rattle.cases.specs.Answers.{outcomeIn};
+ghost use Rattle.cases.specs.Inside.{stepLength, stepIn};
 
 // Reads numbers of 8 bytes from a place on.
 fn numbers(x: &mut [u64], s: &[u8], at: usize)
@@ -27,21 +28,6 @@ fn numbers(x: &mut [u64], s: &[u8], at: usize)
     }
 }
 
-// Writes numbers of 8 bytes one after the other.
-fn put_numbers(dst: &mut [u8], x: &[u64])
-    requires { ⌜ length (now dst) ≡ length (now x) * 8 ⌝ }
-    ensures { λ _. ⌜ now (dst .exit) ≡ eights (now (x .entry)) ⌝ }
-{
-    let n = x.len();
-    let mut i = 0;
-    while i < n {
-        let at = i * 8;
-        let end = at + 8;
-        ground::put(&mut dst[at..end], x[i]);
-        i += 1;
-    }
-}
-
 // One step of the bench that a case lends. The vector file and the scalars are read into what is lent for them, and left there.
 fn stepped(z: &mut [u8], x: &mut [u64], s: &[u8], case: Case) -> StepResult
     requires { ⌜ (length (now z) ≡ case .vectors) × (length (now x) ≡ case .scalars) × (caseBytes case ≤ length (now s)) ⌝ }
@@ -49,14 +35,15 @@ fn stepped(z: &mut [u8], x: &mut [u64], s: &[u8], case: Case) -> StepResult
         StepPromise l (case .word) (benchIn (now (s .entry)) case) r l
         (benchOf (now (z .exit)) (now (x .exit)) (partAt (now (s .entry)) (ramAt case) (case .ram)))) ⌝ }
 {
-    let predicates_at = 96 + case.vectors;
+    let vectors_at = head_bytes(case.question.kind);
+    let predicates_at = vectors_at + case.vectors;
     let scalars_at = predicates_at + case.predicates;
     let flash_at = scalars_at + 8 * case.scalars;
     let flash_rights_at = flash_at + case.flash;
     let ram_at = flash_rights_at + case.flash_rights;
     let ram_rights_at = ram_at + case.ram;
     let end = ram_rights_at + case.ram_rights;
-    bytes::copy(&s[96..predicates_at], z);
+    bytes::copy(&s[vectors_at..predicates_at], z);
     numbers(x, s, scalars_at);
     bench::step(
         z,
@@ -72,28 +59,17 @@ fn stepped(z: &mut [u8], x: &mut [u64], s: &[u8], case: Case) -> StepResult
     )
 }
 
-// Writes what a step tells: the answer's number, then count, element and address.
-fn put_report(dst: &mut [u8], result: StepResult)
-    requires { ⌜ 25 ≤ length (now dst) ⌝ }
-    ensures { λ _. ⌜ now (dst .exit) ≡ reportBytes (reportOf result) ++ drop 25 (now (dst .entry)) ⌝ }
-{
-    let answer = result.answer;
-    let numbers = [result.count, answer.element(), answer.address().0];
-    put_numbers(&mut dst[1..25], &numbers);
-    dst[0] = answer.number() as u8;
-}
-
-// Answers a case: its outcome over the first bytes of what is lent for it. z is stepped where it lies in the outcome, so that
+// Writes the outcome of a step over the first bytes of what is lent for it. z is stepped where it lies in the outcome, so that
 // the vector file is moved once; the scalars are stepped in x.
 fn put_outcome(out: &mut [u8], x: &mut [u64], s: &[u8], case: Case)
-    requires { ⌜ (length (now x) ≡ case .scalars) × (outcomeLength case ≤ length (now out)) × (caseBytes case ≤ length (now s)) ⌝ }
-    ensures { λ _. ⌜ now (out .exit) ≡ outcomeIn (now (s .entry)) case (now (out .entry)) ⌝ }
+    requires { ⌜ (length (now x) ≡ case .scalars) × (stepLength case ≤ length (now out)) × (caseBytes case ≤ length (now s)) ⌝ }
+    ensures { λ _. ⌜ now (out .exit) ≡ stepIn (now (s .entry)) case (now (out .entry)) ⌝ }
 {
     let end = 25 + case.vectors;
     let last = end + 8 * x.len();
     let result = stepped(&mut out[25..end], x, s, case);
     put_numbers(&mut out[end..last], x);
-    put_report(out, result);
+    put_report(out, step_told(result));
 }
 
 // Room for the scalars of any case.
@@ -103,10 +79,10 @@ fn scalars() -> [u64; 128]
     [0; 128]
 }
 
-// Answers a case as `put_outcome` does, with room for its scalars.
-pub(crate) fn written(out: &mut [u8], s: &[u8], case: Case)
-    requires { ⌜ (case .scalars ≤ 128) × (outcomeLength case ≤ length (now out)) × (caseBytes case ≤ length (now s)) ⌝ }
-    ensures { λ _. ⌜ now (out .exit) ≡ outcomeIn (now (s .entry)) case (now (out .entry)) ⌝ }
+// Kind 0: one step, as `put_outcome` makes it, with room for its scalars.
+pub(crate) fn asked_step(out: &mut [u8], s: &[u8], case: Case)
+    requires { ⌜ (case .scalars ≤ 128) × (stepLength case ≤ length (now out)) × (caseBytes case ≤ length (now s)) ⌝ }
+    ensures { λ _. ⌜ now (out .exit) ≡ stepIn (now (s .entry)) case (now (out .entry)) ⌝ }
 {
     let mut x = scalars();
     let n = case.scalars;

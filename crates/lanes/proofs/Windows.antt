@@ -1,25 +1,26 @@
 -- What the lane window shows, in document 01's words, over any result that meets its promise; and that the promise leaves nothing open and can be met.
 use mathlib.Core.Path.{_≡_, refl, sym, ap, _∙_}
+use mathlib.Core.Bool.{not}
 use mathlib.Core.List.{List}
 use mathlib.Core.Logic.{_↔_}
 use Prim.Native.Nat.{ℕ, _/_, _%_, _^_, _<_}
 use native.Mathlib.Nat.{zero-add}
 use native.Mathlib.Omega.{arith}
 use lib.Dec.{T}
-use lib.Ieee.{Float, Format, binary32, binary64, ofBits, nanBits, fits}
-use lib.Ieee.Bits.{ofBits-fits}
+use lib.Ieee.{Float, Format, binary32, binary64, ofBits, nanBits, isNan, fits}
+use lib.Ieee.Bits.{ofBits-fits, nanBits-is}
 use lib.ListN.{length}
 use Rattle.ground.specs.Lists.{little, EachBelow}
 use Rattle.ground.proofs.Laws.{only-one, off, if-cases, little-digit}
 use Rattle.lanes.specs.Lanes.{laneThere, floatCase, floatOf, shownAs, shownOf, bitsOf, ShowPromise}
-use Rattle.lanes.specs.Said.{WidthFor, There, laneByte, AsFloat, AsAsked, OfFormat, LaneAnswer}
+use Rattle.lanes.specs.Said.{WidthFor, There, laneByte, AsFloat, AsAsked, OfFormat, NoNan, LaneAnswer}
 use Rattle.lanes.specs.declared.Kind.{Kind}
 use Rattle.lanes.specs.declared.Kind.the-variants as As
 use Rattle.lanes.specs.declared.Shown.{Shown}
 use Rattle.lanes.specs.declared.Shown.the-variants.{Single, Double, Whole, NoLane}
 use Rattle.lanes.proofs.Patterns.{of-nan, of-float, bits-kept}
 use Rattle.lanes.proofs.Tests.{there-exactly}
-use Rattle.lanes.proofs.Places.{lane-fitting}
+use Rattle.lanes.proofs.Places.{bytes, lane-fitting}
 
 -- ---- bits that are shown, whatever lane they are of
 some-float : (f : Format) (x : Float) → floatCase f x ≡ NoLane → ⊥
@@ -65,6 +66,20 @@ told-format As.Whole n = tt
 told-format As.Single n = float-format binary32 n
 told-format As.Double n = float-format binary64 n
 
+made-no-nan : (f : Format) (x : Float) → T (not (isNan x)) → NoNan (floatCase f x)
+made-no-nan binary32 x h = h
+made-no-nan binary64 x h = h
+
+float-no-nan : (f : Format) (n : ℕ) → NoNan (floatOf f n)
+unfolding floatOf
+float-no-nan f n =
+    if-cases NoNan (nanBits f n) (Whole n) (floatCase f (ofBits f n)) (λ _. tt) (λ e. made-no-nan f (ofBits f n) (rw (← nanBits-is f n, e) tt))
+
+told-no-nan : (kind : Kind) (n : ℕ) → NoNan (shownAs kind n)
+told-no-nan As.Whole n = tt
+told-no-nan As.Single n = float-no-nan binary32 n
+told-no-nan As.Double n = float-no-nan binary64 n
+
 -- ---- the window's answer
 module _ (vl : ℕ) (z : List ℕ) (register : ℕ) (kind : Kind) (width lane : ℕ) where
   -- the number of the lane's bytes, lowest first
@@ -75,9 +90,16 @@ module _ (vl : ℕ) (z : List ℕ) (register : ℕ) (kind : Kind) (width lane : 
   unfolding shownOf
   shown-there t = rw (there-exactly vl z register kind width lane .1 t)
 
-  shown-none : (There vl z register kind width lane → ⊥) → shownOf vl z register kind width lane ≡ NoLane
+  pub shown-none : (There vl z register kind width lane → ⊥) → shownOf vl z register kind width lane ≡ NoLane
   unfolding shownOf
   shown-none n = rw (off (laneThere vl (length z) register kind width lane) (λ h. n (there-exactly vl z register kind width lane .0 h)))
+
+  -- a number that is too large for a register or a width
+  pub no-register : 31 < register → shownOf vl z register kind width lane ≡ NoLane
+  no-register h = shown-none (λ t. let named = t .named in omega arith)
+
+  pub no-width : 64 < width → shownOf vl z register kind width lane ≡ NoLane
+  no-width h = shown-none (λ t. let b = bytes t in omega (arith, b .word, b .whole))
 
   -- any two results that meet the promise are one
   pub show-unique : (r s : Shown) → ShowPromise vl z register kind width lane r → ShowPromise vl z register kind width lane s → r ≡ s
@@ -118,6 +140,13 @@ module _ (vl : ℕ) (z : List ℕ) (register : ℕ) (kind : Kind) (width lane : 
     of-format =
         rw (p .shown)
         (if-cases OfFormat (laneThere vl (length z) register kind width lane) (shownAs kind bits) NoLane (λ _. told-format kind bits) (λ _. tt))
+
+    -- .. and no NaN, which comes as a whole number
+    pub no-nan : NoNan r
+    unfolding shownOf
+    no-nan =
+        rw (p .shown)
+        (if-cases NoNan (laneThere vl (length z) register kind width lane) (shownAs kind bits) NoLane (λ _. told-no-nan kind bits) (λ _. tt))
 
     pub window-answers : LaneAnswer vl z register kind width lane r
     window-answers = record { none = none-exactly .1; asked = as-asked; bytes = bytes-exactly; below = bits-below; format = of-format }

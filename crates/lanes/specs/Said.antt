@@ -1,11 +1,11 @@
 -- Document 01's own words on the lane window, as statements. The laws are stated in these words, and tie the definition to them.
 use Prim.Native.Nat.{ℕ, _+_, _*_, _/_, _%_, _^_, _≤_, _<_}
 use mathlib.Core.Path.{_≡_}
-use mathlib.Core.Bool.{true, false}
+use mathlib.Core.Bool.{true, false, not}
 use mathlib.Core.List.{List}
 use mathlib.Core.Logic.{_⊎_}
 use lib.Dec.{T}
-use lib.Ieee.{Float, Format, binary32, binary64, nanBits, fits}
+use lib.Ieee.{Float, Format, binary32, binary64, nanBits, isNan, fits}
 use lib.ListN.{length, getD}
 use Rattle.steps.specs.Said.{LengthAllowed}
 use Rattle.lanes.specs.Lanes.{bitsOf}
@@ -47,6 +47,13 @@ OfFormat (Single x) = T (fits binary32 x)
 OfFormat (Double x) = T (fits binary64 x)
 OfFormat (Whole n) = Unit {0}
 OfFormat NoLane = Unit {0}
+
+-- .. and no NaN
+abbrev pub NoNan : Shown → Type 0
+NoNan (Single x) = T (not (isNan x))
+NoNan (Double x) = T (not (isNan x))
+NoNan (Whole n) = Unit {0}
+NoNan NoLane = Unit {0}
 
 -- the answer to "What does a lane hold?"
 pub record LaneAnswer (vl : ℕ) (z : List ℕ) (register : ℕ) (kind : Kind) (width lane : ℕ) (r : Shown) : Type 0 where

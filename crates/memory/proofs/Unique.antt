@@ -17,7 +17,7 @@ use Rattle.memory.specs.Addresses.{PlusPromise, MovedPromise}
 use Rattle.memory.specs.Areas.{Areas, AreasAcceptedPromise}
 use Rattle.memory.specs.Bytes.{BytePromise}
 use Rattle.memory.specs.Elements.{ElementPromise}
-use Rattle.memory.specs.Windows.{PartOf, Shows, shownPlace, WindowPromise}
+use Rattle.memory.specs.Windows.{PartOf, Shows, shownPlace, PlacePromise, WindowPromise}
 
 -- an address is its number
 pub address-unique : {n : ℕ} (x y : Address) → x .0 ≡ n → y .0 ≡ n → x ≡ y
@@ -38,6 +38,9 @@ module _ (m : Areas) where
 
   pub element-unique : (a : ℕ) (s : Size) (x y : Reading) → ElementPromise m a s x → ElementPromise m a s y → x ≡ y
   element-unique a s x y p q = only-one p q
+
+  pub place-unique : (a : ℕ) (x y : Place) → PlacePromise m a x → PlacePromise m a y → x ≡ y
+  place-unique a x y p q = only-one p q
 
 -- two parts of one slice, from one place to another
 part-unique : {s x y : RefT (List ℕ)} {a e : ℕ} → PartOf s x a e → PartOf s y a e → (x .now ≡ y .now) × (x .ptr ≡ y .ptr)

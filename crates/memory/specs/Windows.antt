@@ -25,6 +25,10 @@ Shows flash ram Nowhere p = PartOf flash p 0 0
 unfoldable pub shownPlace : Areas → ℕ → Place
 shownPlace m a = if areAreasAccepted m then placeIn m a else Nowhere
 
+-- what `shown_place` promises: the place that the window shows
+abbrev pub PlacePromise : Areas → ℕ → Place → Type 0
+PlacePromise m a r = r ≡ shownPlace m a
+
 -- what `window` promises, and `window_beside`
 abbrev pub WindowPromise : Areas → ℕ → RefT (List ℕ) → RefT (List ℕ) → RefT (List ℕ) → Type 0
 WindowPromise m a flash ram p = Shows flash ram (shownPlace m a) p

@@ -8,7 +8,7 @@ ghost use Rattle.memory.specs.Addresses.{PlusPromise, MovedPromise};
 ghost use Rattle.memory.specs.Areas.{areasOf, endOf, isAreaAccepted, shareNone, AreasAcceptedPromise, covers, placeOf};
 ghost use Rattle.memory.specs.Bytes.{judged, lookOf, BytePromise};
 ghost use Rattle.memory.specs.Elements.{readingOf, ElementPromise};
-ghost use Rattle.memory.specs.Windows.{shownPlace, WindowPromise};
+ghost use Rattle.memory.specs.Windows.{PlacePromise, WindowPromise};
 
 // The most bytes of an area, and the bytes of a page.
 pub const AREA_LIMIT: usize = 65536;
@@ -252,8 +252,8 @@ fn shorter<'f, 'r: 'f>(s: &'r [u8], like: &'f [u8]) -> &'f [u8]
     s
 }
 
-// The place that the address window shows: nowhere where the areas are not accepted.
-fn shown_place(
+// The place that the address window shows: nowhere where the areas are not accepted. The window hands out bytes; this says where they lie.
+pub fn shown_place(
     map: Map,
     flash: &[u8],
     flash_rights: &[u8],
@@ -261,7 +261,7 @@ fn shown_place(
     ram_rights: &[u8],
     a: Address,
 ) -> Place
-    ensures { λ r. ⌜ r ≡ shownPlace (areasOf map (now (flash .entry)) (now («flash_rights» .entry)) (now (ram .entry)) (now («ram_rights» .entry))) (a .0) ⌝ }
+    ensures { λ r. ⌜ PlacePromise (areasOf map (now (flash .entry)) (now («flash_rights» .entry)) (now (ram .entry)) (now («ram_rights» .entry))) (a .0) r ⌝ }
 {
     if areas_accepted(map, flash, flash_rights, ram, ram_rights) {
         return locate(map, flash.len(), ram.len(), a);

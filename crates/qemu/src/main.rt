@@ -120,7 +120,7 @@ fn all_steps(stream: &mut [u8], out: &mut [u8]) {
 
 fn main() {
     // the longest case with its outcome: `longest-case` of crates/cases/proofs/Limits.antt
-    let mut stream = [0u8; 399609];
+    let mut stream = [0u8; 465185];
     let mut out = [0u8; 66585];
     all_steps(&mut stream, &mut out);
 }

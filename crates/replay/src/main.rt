@@ -1,6 +1,7 @@
 // Cases in, outcomes out, in the format of docs/CASES.md: all that matters is `cases::answer`; here it is only read and written.
 use cases::Answered;
 use cases::Opened;
+use cases::Refusal;
 use libc::STDERR_FILENO;
 use libc::STDIN_FILENO;
 use libc::STDOUT_FILENO;
@@ -28,21 +29,38 @@ fn read_part(stream: &mut [u8], from: usize, to: usize) -> usize {
     0
 }
 
-// Reads a head, and answers how many bytes of it came: none at the end of the input, or where it cannot be read.
-fn read_head(number: u64, stream: &mut [u8]) -> usize {
-    if stream.len() < 96 {
-        return 0;
+// What there is of a case: so many bytes, fewer than were wanted where the input ends; or standard input cannot be read.
+enum Came {
+    Bytes(usize),
+    Unread,
+}
+
+// Whether standard input cannot be read, where no byte came: at its end there is none either, and a read that failed fails again.
+fn unread() -> bool {
+    let mut probe = [0u8; 1];
+    libc::read(STDIN_FILENO, &mut probe) != 0
+}
+
+// Reads on until so many bytes are there.
+fn read_on(stream: &mut [u8], from: usize, to: usize) -> Came {
+    let n = std::num::wrapping_add_usize(from, read_part(stream, from, to));
+    if n < to {
+        if unread() {
+            return Came::Unread;
+        }
     }
-    let got = libc::read(STDIN_FILENO, &mut stream[0..96]);
-    if got < 0 {
-        tell(telling::line(&CASE, number, b"standard input cannot be read"));
-        return 0;
-    }
-    let n = io::count(got, stream);
-    if n == 0 {
-        return 0;
-    }
-    std::num::wrapping_add_usize(n, read_part(stream, n, 96))
+    Came::Bytes(n)
+}
+
+// Ends the run, and says why.
+fn refuse(number: u64, why: Refusal) -> bool {
+    tell(telling::refused(&CASE, number, why));
+    false
+}
+
+fn cannot_read(number: u64) -> bool {
+    tell(telling::line(&CASE, number, b"standard input cannot be read"));
+    false
 }
 
 // Writes an outcome, and answers whether it is written.
@@ -61,29 +79,61 @@ fn answered(number: u64, stream: &[u8], n: usize, out: &mut [u8]) -> bool {
     if n <= stream.len() {
         match cases::answer(&stream[0..n], out) {
             Answered::Written(_, given) => return write_outcome(number, out, given),
-            Answered::Not(why) => tell(telling::refused(&CASE, number, why)),
+            Answered::Not(why) => return refuse(number, why),
         }
     }
     false
 }
 
+// Reads what is left of a case of which n bytes are there, and answers it.
+fn rest(number: u64, stream: &mut [u8], n: usize, whole: usize, out: &mut [u8]) -> bool {
+    match read_on(stream, n, whole) {
+        Came::Bytes(got) => answered(number, stream, got, out),
+        Came::Unread => cannot_read(number),
+    }
+}
+
+// What the first n bytes open with.
+fn opened(stream: &[u8], n: usize) -> Opened {
+    if n <= stream.len() {
+        return cases::head(&stream[0..n]);
+    }
+    Opened::Broken(Refusal::Ends)
+}
+
+// Reads the rest of a head that is longer than that of a step.
+fn longer_head(number: u64, stream: &mut [u8], out: &mut [u8]) -> bool {
+    match read_on(stream, 96, 136) {
+        Came::Unread => cannot_read(number),
+        Came::Bytes(n) => match opened(stream, n) {
+            Opened::Broken(why) => refuse(number, why),
+            Opened::Begins(_, whole) => rest(number, stream, n, whole, out),
+        },
+    }
+}
+
+// Goes on where a head is refused. Of 96 bytes that it ends too early is said exactly where it is longer.
+fn refused_head(number: u64, stream: &mut [u8], n: usize, why: Refusal, out: &mut [u8]) -> bool {
+    if n == 96 {
+        if let Refusal::Ends = why {
+            return longer_head(number, stream, out);
+        }
+    }
+    refuse(number, why)
+}
+
 // Reads a case and answers it: first its head, which says how long it is, and then the rest.
 fn one_case(number: u64, stream: &mut [u8], out: &mut [u8]) -> bool {
-    let got = read_head(number, stream);
-    if got == 0 {
-        return false;
-    }
-    if stream.len() < got {
-        return false;
-    }
-    match cases::head(&stream[0..got]) {
-        Opened::Broken(why) => {
-            tell(telling::refused(&CASE, number, why));
-            false
-        }
-        Opened::Begins(_, whole) => {
-            let rest = read_part(stream, 96, whole);
-            answered(number, stream, std::num::wrapping_add_usize(96, rest), out)
+    match read_on(stream, 0, 96) {
+        Came::Unread => cannot_read(number),
+        Came::Bytes(n) => {
+            if n == 0 {
+                return false;
+            }
+            match opened(stream, n) {
+                Opened::Broken(why) => refused_head(number, stream, n, why, out),
+                Opened::Begins(_, whole) => rest(number, stream, n, whole, out),
+            }
         }
     }
 }
@@ -101,7 +151,7 @@ fn all_cases(stream: &mut [u8], out: &mut [u8]) {
 
 fn main() {
     // the longest case, and the longest outcome: `longest-case` of crates/cases/proofs/Limits.antt
-    let mut stream = [0u8; 333024];
+    let mut stream = [0u8; 398600];
     let mut out = [0u8; 66585];
     all_cases(&mut stream, &mut out);
 }

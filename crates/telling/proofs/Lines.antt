@@ -9,9 +9,9 @@ use Rattle.texts.specs.Texts.{bytesIn, empty, andOf, decimalOf}
 use Rattle.texts.specs.declared.Text.{Text}
 use Rattle.texts.proofs.Texts.{and-and, says-whole, digits-most}
 use Rattle.cases.specs.declared.heads.Part.{Part}
-use Rattle.cases.specs.declared.heads.Part.the-variants.{Vectors, Predicates, Scalars, Flash, FlashRights, Ram, RamRights}
+use Rattle.cases.specs.declared.heads.Part.the-variants.{Vectors, Predicates, Scalars, Flash, FlashRights, Ram, RamRights, Blob}
 use Rattle.cases.specs.declared.heads.Refusal.{Refusal}
-use Rattle.cases.specs.declared.heads.Refusal.the-variants.{Ends, Magic, Flags, Level, Long, Room}
+use Rattle.cases.specs.declared.heads.Refusal.the-variants.{Ends, Magic, Flags, Kind, Level, Long, Room}
 use Rattle.telling.specs.Lines.{ascii, lineOf, overLimit, reasonOf, LinePromise, RefusedPromise}
 
 behind : (a b : List ℕ) → andOf (andOf empty a) b ≡ andOf empty (a ++ b)
@@ -44,11 +44,13 @@ limit-short Flash = lit≤ tt
 limit-short FlashRights = lit≤ tt
 limit-short Ram = lit≤ tt
 limit-short RamRights = lit≤ tt
+limit-short Blob = lit≤ tt
 
 reason-short : (why : Refusal) → length (ascii (reasonOf why)) ≤ 54
 reason-short Ends = lit≤ tt
 reason-short Magic = lit≤ tt
 reason-short Flags = lit≤ tt
+reason-short Kind = lit≤ tt
 reason-short Level = lit≤ tt
 reason-short (Long part) = limit-short part
 reason-short Room = lit≤ tt

@@ -8,9 +8,9 @@ use mathlib.Core.List.{List, [], _∷_, _++_}
 use Rattle.texts.specs.Texts.{empty, andOf, decimalOf}
 use Rattle.texts.specs.declared.Text.{Text}
 use Rattle.cases.specs.declared.heads.Part.{Part}
-use Rattle.cases.specs.declared.heads.Part.the-variants.{Vectors, Predicates, Scalars, Flash, FlashRights, Ram, RamRights}
+use Rattle.cases.specs.declared.heads.Part.the-variants.{Vectors, Predicates, Scalars, Flash, FlashRights, Ram, RamRights, Blob}
 use Rattle.cases.specs.declared.heads.Refusal.{Refusal}
-use Rattle.cases.specs.declared.heads.Refusal.the-variants.{Ends, Magic, Flags, Level, Long, Room}
+use Rattle.cases.specs.declared.heads.Refusal.the-variants.{Ends, Magic, Flags, Kind, Level, Long, Room}
 
 -- the bytes of what is written between quotes, a character of ASCII each
 abbrev pub ascii : String → List ℕ
@@ -34,12 +34,14 @@ overLimit Flash = "flash_len is over 131072"
 overLimit FlashRights = "flash_rights_len is over 64"
 overLimit Ram = "ram_len is over 131072"
 overLimit RamRights = "ram_rights_len is over 64"
+overLimit Blob = "blob_len is over 65536"
 
 -- why a case is refused
 abbrev pub reasonOf : Refusal → String
 reasonOf Ends = "the stream ends inside the case"
 reasonOf Magic = "it does not begin with the magic KKJ1"
-reasonOf Flags = "a flag bit above 2 is set"
+reasonOf Flags = "a flag bit is set that means nothing"
+reasonOf Kind = "its kind of question is not here; 0, 2 and 3 are"
 reasonOf Level = "the layout of its level is not here; that of 0 to 4 is"
 reasonOf (Long part) = overLimit part
 reasonOf Room = "its outcome is longer than the buffer"

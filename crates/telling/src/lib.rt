@@ -28,6 +28,7 @@ fn too_long(prefix: &[u8], number: u64, part: Part) -> Text
         Part::FlashRights => line(prefix, number, b"flash_rights_len is over 64"),
         Part::Ram => line(prefix, number, b"ram_len is over 131072"),
         Part::RamRights => line(prefix, number, b"ram_rights_len is over 64"),
+        Part::Blob => line(prefix, number, b"blob_len is over 65536"),
     }
 }
 
@@ -38,7 +39,12 @@ pub fn refused(prefix: &[u8], number: u64, why: Refusal) -> Text
     match why {
         Refusal::Ends => line(prefix, number, b"the stream ends inside the case"),
         Refusal::Magic => line(prefix, number, b"it does not begin with the magic KKJ1"),
-        Refusal::Flags => line(prefix, number, b"a flag bit above 2 is set"),
+        Refusal::Flags => line(prefix, number, b"a flag bit is set that means nothing"),
+        Refusal::Kind => line(
+            prefix,
+            number,
+            b"its kind of question is not here; 0, 2 and 3 are",
+        ),
         Refusal::Level => line(
             prefix,
             number,

@@ -13,8 +13,8 @@ use Rattle.steps.specs.Step.{StepPromise}
 use Rattle.steps.specs.declared.StepResult.{StepResult}
 use Rattle.bench.specs.Lends.{benchOf}
 use Rattle.cases.specs.Parts.{partAt, ramAt, lentIn, benchIn}
-use Rattle.cases.specs.Outcomes.{eights, reportBytes, outcomeBytes, outcomeLength}
-use Rattle.cases.specs.Answers.{outcomeIn}
+use Rattle.cases.specs.Outcomes.{eights, reportBytes, outcomeBytes}
+use Rattle.cases.specs.Inside.{stepLength, stepIn}
 use Rattle.cases.specs.declared.heads.Case.{Case}
 use Rattle.cases.proofs.parts.put_outcome.Statement.{statement}
 use Rattle.cases.proofs.parts.put_outcome.Tie as tie
@@ -39,18 +39,18 @@ layers out z xs ys n m e = back-in _ xs ys (25 + n) m e ∙ ap (λ (l : List ℕ
 -- the outcome: the report, and behind it what the step left
 as-outcome : (s : List ℕ) (c : Case) (out : List ℕ) (r : StepResult) {z x : List ℕ}
     → (let l = lentIn s c in StepPromise l (c .word) (benchIn s c) r l (benchOf z x (partAt s (ramAt c) (c .ram))))
-    → reportBytes (reportOf r) ++ ((z ++ eights x) ++ drop (outcomeLength c) out) ≡ outcomeIn s c out
-unfolding outcomeIn outcomeBytes
-as-outcome s c out r {z} {x} h = rw (← (h .ends)) (sym (append-assoc (reportBytes (reportOf r)) (z ++ eights x) (drop (outcomeLength c) out)))
+    → reportBytes (reportOf r) ++ ((z ++ eights x) ++ drop (stepLength c) out) ≡ stepIn s c out
+unfolding stepIn outcomeBytes
+as-outcome s c out r {z} {x} h = rw (← (h .ends)) (sym (append-assoc (reportBytes (reportOf r)) (z ++ eights x) (drop (stepLength c) out)))
 
 pub put-outcome-spec : {M : Type 1} → statement M
 put-outcome-spec =
     tie.close (tie.spec
     (λ c. search needs) (λ c. search needs) (λ c. search needs) (λ c. search needs) (λ c. search needs) (λ c. search needs)
     (λ c κs. search needs) (λ c. search needs) (λ c. search needs) (λ c. search needs) (λ c κs. search needs)
-    (λ c κs. search needs) (λ c. search needs) (λ c. search needs)
+    (λ c κs. tt) (λ c κs. search needs) (λ c. search needs) (λ c. search needs)
     (λ c.
-    let put = c .before .before .before .before .before .before in
+    let put = c .before .before .before .before .before .before .before in
     let back = put .before .before .before .before .before .before in
     let g = back .before .before .before .before .before .before .before .before in
     let step = back .before .stepped in
@@ -61,8 +61,8 @@ put-outcome-spec =
     let x = step .last .1 .0 in
     let room : 25 + n + m ≤ length out = omega (arith, g .pre .0, g .pre .1) in
     let size : length z ≡ n = back .out .given .0 ∙ part-length out 25 n (omega arith) in
-    let far : 25 + n + m ≡ outcomeLength (g .args .case) = ap (λ (k : ℕ). 25 + n + 8 * k) (g .pre .0) in
-    c .before .before .put-report .ensures
+    let far : 25 + n + m ≡ stepLength (g .args .case) = ap (λ (k : ℕ). 25 + n + 8 * k) (g .pre .0) in
+    rw (c .before .before .before .step-told .ensures) at (c .before .before .put-report .ensures)
     ∙ ap (λ (l : List ℕ). reportBytes (reportOf (step .result)) ++ drop 25 l) (layers out z _ (eights x) n m (put .put-numbers .ensures))
     ∙ ap (λ (l : List ℕ). reportBytes (reportOf (step .result)) ++ l)
     (behind out n m z (eights x) size room ∙ ap (λ (k : ℕ). (z ++ eights x) ++ drop k out) far)

@@ -10,7 +10,6 @@ use mir.Syntax.{w64}
 use mir.Val.{Fits}
 use Rattle.ground.specs.Lists.{listed, bytesAt}
 use Rattle.ground.proofs.Fills.{part-length, copied-over}
-use Rattle.cases.specs.Parts.{predicatesAt, scalarsAt, flashAt, flashRightsAt, ramAt, ramRightsAt}
 use Rattle.cases.proofs.Lends.{cut, as-lent}
 use Rattle.cases.proofs.parts.stepped.Statement.{statement}
 use Rattle.cases.proofs.parts.stepped.Tie as tie
@@ -19,46 +18,69 @@ use Rattle.cases.proofs.parts.stepped.Tie as tie
 fits : (g : tie.Start) {n : ℕ} → n ≤ length (g .args .s .now) → Fits w64 n
 fits g h = fits-le h (record { fits = g .good .1 .1 .0 .0 })
 
--- the entry, from where every place is known, and from where the step is lent its first part
-abbrev start : tie.After-struct-known7 → tie.Start
-start c = c .before .before .before .before .before .before .before .before .before .before
+-- the entry, from where the head's length is known
+abbrev start : tie.After-head-bytes → tie.Start
+start c = c .before .before .before .before
 
-abbrev lender : tie.After-step-arg2 → tie.Start
-lender c = start (c .before .before .before .before .before .before .before .before .before .before .before)
+-- every part lies within the bytes
+within : (c : tie.After-head-bytes) → let g = start c .args in let k = g .case in
+    c .head-bytes .result + k .vectors + k .predicates + 8 * k .scalars + k .flash + k .«flash_rights» + k .ram + k .«ram_rights» ≤ length (g .s .now)
+within c = omega (arith, c .head-bytes .ensures, start c .pre .2)
+
+-- where every place is known, and where the step is lent its first part
+abbrev placed : tie.After-struct-known7 → tie.After-head-bytes
+placed c = c .before .before .before .before .before .before .before
+
+abbrev lender : tie.After-step-arg2 → tie.After-head-bytes
+lender c = placed (c .before .before .before .before .before .before .before .before .before .before .before)
 
 -- where the scalars have been read
 abbrev scalars-read : tie.After-slice-known6 → tie.After-x
 scalars-read c = c .before .before .before .before .before .before .before .before .before .before .before .before .before
 
 -- z is as long as its part of the bytes
-z-long : (g : tie.Start) → length (g .args .z .now) ≡ length (take (predicatesAt (g .args .case) - 96) (drop 96 (g .args .s .now)))
-z-long g = g .pre .0 ∙ sym (part-length (g .args .s .now) 96 (g .args .case .vectors) (omega (arith, g .pre .2)))
+z-long : (c : tie.After-head-bytes) → let g = start c .args in let at = c .head-bytes .result in
+    length (g .z .now) ≡ length (take (at + g .case .vectors - at) (drop at (g .s .now)))
+z-long c =
+    let g = start c in
+    g .pre .0 ∙ sym (part-length (g .args .s .now) (c .head-bytes .result) (g .args .case .vectors) (omega (arith, within c)))
 
 pub stepped-spec : {M : Type 1} → statement M
 stepped-spec =
-    tie.close (tie.spec
-    (λ c. search needs) (λ c. search needs) (λ c. search needs) (λ c. search needs) (λ c. search needs)
-    (λ c. let g = c .before .before .before .before .before .before .before .before in fits g (omega (arith, g .pre .2)))
-    (λ c. let g = c .before .before .before .before .before .before .before .before .before in fits g (omega (arith, g .pre .2)))
-    (λ c. fits (start c) (start c .pre .2))
-    (λ c. search needs) (λ c. search needs) (λ c. omega (arith, start c .pre .2)) (λ c κs. le-of-eq (sym (z-long (start (c .before .before)))))
-    (λ c κs. let g = start (c .before .before .before .before .before .before) in omega (arith, g .pre .1, g .pre .2))
-    (λ c. search needs) (λ c. search needs) (λ c. omega (arith, lender c .pre .2))
-    (λ c. search needs) (λ c. search needs) (λ c. omega (arith, lender (c .before) .pre .2))
-    (λ c. search needs) (λ c. search needs) (λ c. omega (arith, lender (c .before .before) .pre .2))
-    (λ c. search needs) (λ c. search needs) (λ c. omega (arith, lender (c .before .before .before) .pre .2))
-    (λ c. search needs) (λ c. search needs) (λ c. omega (arith, lender (c .before .before .before .before) .pre .2))
+    tie.close (tie.spec (λ c κs. tt)
+    (λ c. fits (start (c .before)) (omega (arith, within (c .before))))
+    (λ c. fits (start (c .before .before)) (omega (arith, within (c .before .before))))
+    (λ c. let t = c .before .before .before in fits (start t) (omega (arith, within t)))
+    (λ c. let t = c .before .before .before in fits (start t) (omega (arith, within t)))
+    (λ c. let t = c .before .before .before .before in fits (start t) (omega (arith, within t)))
+    (λ c. let t = c .before .before .before .before .before in fits (start t) (omega (arith, within t)))
+    (λ c. let t = c .before .before .before .before .before .before in fits (start t) (omega (arith, within t)))
+    (λ c. fits (start (placed c)) (within (placed c)))
+    (λ c. search needs) (λ c. search needs) (λ c. omega (arith, within (placed c))) (λ c κs. le-of-eq (sym (z-long (placed (c .before .before)))))
+    (λ c κs. let t = placed (c .before .before .before .before .before .before) in omega (arith, start t .pre .1, within t))
+    (λ c. search needs) (λ c. search needs) (λ c. omega (arith, within (lender c)))
+    (λ c. search needs) (λ c. search needs) (λ c. omega (arith, within (lender (c .before))))
+    (λ c. search needs) (λ c. search needs) (λ c. omega (arith, within (lender (c .before .before))))
+    (λ c. search needs) (λ c. search needs) (λ c. omega (arith, within (lender (c .before .before .before))))
+    (λ c. search needs) (λ c. search needs) (λ c. omega (arith, within (lender (c .before .before .before .before))))
     (λ c κs. tt) (λ c. c .before .before .before .z2 .given ∙ scalars-read c .before .before .before .before .z .given)
     (λ c. c .before .x2 .given ∙ scalars-read c .x .given)
     (λ c.
     let lent = c .before .before .before .before .before .before .before .before .before .before in
     let read = lent .before .before .before .before in
-    let g = lender lent in
-    let s = g .args .s .now in
-    let k = g .args .case in
-    let t = c .before .before .before .before .step in
+    let t = lender lent in
+    let s = start t .args .s .now in
+    let k = start t .args .case in
+    let e = t .head-bytes .ensures in
+    let step = c .before .before .before .before .step in
+    let from = t .head-bytes .result in
+    let predicates = from + k .vectors in
+    let scalars = predicates + k .predicates in
+    let flash = scalars + 8 * k .scalars in
+    let flash-rights = flash + k .flash in
+    let ram = flash-rights + k .«flash_rights» in
     as-lent s k
-    (read .before .before .before .before .copy .ensures .1 ∙ copied-over _ _ (z-long g) ∙ cut s 96 (k .vectors))
-    (read .numbers .ensures ∙ ap (listed (λ i. bytesAt s (scalarsAt k + 8 * i) 8) 0) (g .pre .1))
-    (cut s (ramAt k) (k .ram)) (cut s (predicatesAt k) (k .predicates)) (cut s (flashAt k) (k .flash))
-    (cut s (flashRightsAt k) (k .«flash_rights»)) (cut s (ramRightsAt k) (k .«ram_rights»)) (t .result) (t .ensures)))
+    (rw (← e) (read .before .before .before .before .copy .ensures .1 ∙ copied-over _ _ (z-long t) ∙ cut s from (k .vectors)))
+    (rw (← e) (read .numbers .ensures ∙ ap (listed (λ i. bytesAt s (scalars + 8 * i) 8) 0) (start t .pre .1)))
+    (rw (← e) (cut s ram (k .ram))) (rw (← e) (cut s predicates (k .predicates))) (rw (← e) (cut s flash (k .flash)))
+    (rw (← e) (cut s flash-rights (k .«flash_rights»))) (rw (← e) (cut s (ram + k .ram) (k .«ram_rights»))) (step .result) (step .ensures)))

@@ -9,8 +9,8 @@ use lib.ListN.{length}
 use Rattle.ground.specs.Lists.{listed}
 use Rattle.ground.proofs.Fills.{Filled, unfilled, digits-filled, all-filled}
 use Rattle.cases.specs.Outcomes.{eighth, eights}
-use Rattle.cases.proofs.parts.put_numbers.Statement.{statement}
-use Rattle.cases.proofs.parts.put_numbers.Tie as tie
+use Rattle.cases.proofs.outcomes.put_numbers.Statement.{statement}
+use Rattle.cases.proofs.outcomes.put_numbers.Tie as tie
 
 abbrev Inv-loop : tie.InvT-loop
 Inv-loop dst₀ x n i₀ dst i = (i ≤ n) × Filled (eighth x) 8 (length dst₀) dst i

@@ -1,19 +1,19 @@
--- `written` meets its contract: there is room for the scalars.
+-- `asked_step` meets its contract: there is room for the scalars.
 use mathlib.Core.Path.{_≡_, sym}
 use mathlib.Core.List.{List}
 use Prim.Native.Nat.{ℕ, _≤_}
 use native.Mathlib.Omega.{arith}
 use borrow.Author.Needs.{needs}
 use lib.ListN.{length, take, length-take}
-use Rattle.cases.proofs.parts.written.Statement.{statement}
-use Rattle.cases.proofs.parts.written.Tie as tie
+use Rattle.cases.proofs.parts.asked_step.Statement.{statement}
+use Rattle.cases.proofs.parts.asked_step.Tie as tie
 
 -- a prefix of the room
 prefix : (xs : List ℕ) (n : ℕ) → 128 ≡ length xs → n ≤ 128 → n ≡ length (take n xs)
 prefix xs n e h = sym (simp length-take (omega arith))
 
-pub written-spec : {M : Type 1} → statement M
-written-spec =
+pub asked-step-spec : {M : Type 1} → statement M
+asked-step-spec =
     tie.close (tie.spec (λ c κs. tt)
     (λ c. omega (arith, c .before .scalars .ensures, c .before .before .before .before .pre .0))
     (λ c. prefix _ _ (c .before .before .scalars .ensures) (c .before .before .before .before .before .pre .0))
