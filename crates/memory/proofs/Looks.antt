@@ -3,10 +3,11 @@
 use mathlib.Core.Path.{_≡_, sym, _∙_, ap}
 use mathlib.Core.Bool.{Bool, false}
 use mathlib.Core.Logic.{_↔_, _⊎_, inl, inr, ⊎-elim}
-use Prim.Native.Nat.{ℕ, _-_, _/_, _%_}
+use Prim.Native.Nat.{ℕ, _-_, _/_, _%_, _<_}
 use native.Mathlib.Omega.{arith}
 use lib.Dec.{eqb}
-use lib.ListN.{length, getD}
+use lib.ListN.{length, getD, set}
+use lib.Seq.{getD-set-same, getD-set-other}
 use borrow.Author.Tests.{eq-eqb, ne-eqb, eqb-true, eqb-false}
 use Rattle.ground.proofs.Laws.{true-or-false}
 use Rattle.memory.specs.declared.Fault.the-variants.{Nowhere, Denied}
@@ -37,6 +38,22 @@ right-or-not : (r : Area) (a : ℕ) → Right r a ⊎ (Right r a → ⊥)
 right-or-not r a =
     let x = getD (r .rights) ((a - r .start) / pageBytes) 0 % 2 in
     ⊎-elim (λ e. inl (eqb-true x 1 e)) (λ e. inr (eqb-false x 1 e)) (true-or-false (eqb x 1))
+
+-- "one rights byte per 4,096-byte page begun": an area with the rights byte of page p as v
+abbrev pub withRight : Area → ℕ → ℕ → Area
+withRight r p v = record { start = r .start; bytes = r .bytes; rights = set (r .rights) p v }
+
+-- the right at an address is that of its own page's rights byte ..
+pub right-own : (r : Area) (a v : ℕ) → (a - r .start) / 4096 < length (r .rights) → Right (withRight r ((a - r .start) / 4096) v) a ↔ (v % 2 ≡ 1)
+right-own r a v h =
+    let e = getD-set-same (r .rights) ((a - r .start) / 4096) v 0 h in
+    (λ (t : Right (withRight r ((a - r .start) / 4096) v) a). rw e at t, λ t. rw e t)
+
+-- .. and of no other page's
+pub right-others : (r : Area) (a p v : ℕ) → ((a - r .start) / 4096 ≡ p → ⊥) → Right (withRight r p v) a ↔ Right r a
+right-others r a p v h =
+    let e = getD-set-other (r .rights) p ((a - r .start) / 4096) v 0 h in
+    (λ (t : Right (withRight r p v) a). rw e at t, λ (t : Right r a). rw e t)
 
 module _ (m : Areas) (a : ℕ) where
   -- where flash holds the address, flash is looked at, whatever RAM holds
