@@ -12,6 +12,7 @@ pub mod decode;
 pub mod describe;
 pub mod edges;
 pub mod generate;
+pub mod holding;
 pub mod loads;
 pub mod machine;
 pub mod plain;

@@ -11,6 +11,7 @@ use second::broken;
 use second::compare::{agree, compare, Found};
 use second::describe::{case_in_words, outcome_in_words};
 use second::generate;
+use second::holding::{self, Written};
 use second::loads::right_step;
 use second::plain;
 use second::recorded::{hold, weave, Bad};
@@ -28,8 +29,9 @@ second: a second interpreter of Arm vector loads, written apart
       which answer, and how many have all their elements together
   second compare --seed S --count N [--replay PROGRAM]
       compares N generated cases with PROGRAM (default ./replay); shows the same table
-  second broken [--seed S] [--replay PROGRAM]
-      sends broken streams through PROGRAM: what was answered stands, and one line says why
+  second broken [--seed S] [--replay PROGRAM] [--pieces]
+      sends broken streams through PROGRAM: what was answered stands, and one line says which case
+      is broken and why; --pieces: written in small pieces
   second case --seed S --number K [--bytes FILE]
       shows one generated case and its outcome in words; writes its bytes
   second sharp [--seed S] [--limit N]
@@ -222,13 +224,20 @@ fn run_compare(words: &[String]) -> Result<(), Trouble> {
 }
 
 fn run_broken(words: &[String]) -> Result<(), Trouble> {
-    let options = Options::read(words, &["--seed", "--replay"], &[])?;
+    let options = Options::read(words, &["--seed", "--replay"], &["--pieces"])?;
     let streams = broken::streams(options.number("--seed", Some(1))?);
     let program = options.text("--replay").unwrap_or("./replay");
+    let (written, how) = match options.text("--pieces") {
+        Some(_) => (Written::InPieces, "in pieces"),
+        None => (Written::AtOnce, "at once"),
+    };
     for stream in &streams {
-        broken::hold(program, stream).map_err(|why| Trouble::Line(1, why))?;
+        holding::hold(program, stream, written).map_err(|why| Trouble::Line(1, why))?;
     }
-    say(&format!("{} streams as they should be\n", streams.len()))
+    let all = streams.len();
+    say(&format!(
+        "{all} streams, written {how}, as they should be\n"
+    ))
 }
 
 fn run_case(words: &[String]) -> Result<(), Trouble> {

@@ -1,16 +1,11 @@
 //! The program's commands: what they say and how they end.
 
+mod programs;
+
 use std::fs;
-use std::io::Write;
-use std::path::{Path, PathBuf};
-use std::process::{Command, Output, Stdio};
-use std::thread;
+use std::process::{Command, Stdio};
 
-const SECOND: &str = env!("CARGO_BIN_EXE_second");
-
-fn place(name: &str) -> PathBuf {
-    Path::new(env!("CARGO_TARGET_TMPDIR")).join(name)
-}
+use programs::{place, run, script, text, SECOND};
 
 fn read(file: &str) -> Vec<u8> {
     fs::read(file).expect("written")
@@ -43,43 +38,6 @@ impl Files {
         assert_eq!(run(&files.with(&["sample", "--seed", seed]), &[]).0, 0);
         files
     }
-}
-
-/// Runs `second` with this input; gives exit status, output, and lines of standard error.
-fn run(arguments: &[&str], input: &[u8]) -> (i32, Vec<u8>, String) {
-    let mut child = Command::new(SECOND)
-        .args(arguments)
-        .stdin(Stdio::piped())
-        .stdout(Stdio::piped())
-        .stderr(Stdio::piped())
-        .spawn()
-        .expect("second starts");
-    let mut stdin = child.stdin.take().expect("a pipe");
-    let input = input.to_vec();
-    // In a thread of its own, since the output is read at the same time; a command that does not
-    // read its input closes the pipe
-    let writer = thread::spawn(move || stdin.write_all(&input).unwrap_or_default());
-    let Output {
-        status,
-        stdout,
-        stderr,
-    } = child.wait_with_output().expect("second ends");
-    writer.join().expect("written");
-    let stderr = String::from_utf8(stderr).expect("text");
-    (status.code().expect("no signal"), stdout, stderr)
-}
-
-fn text(output: Vec<u8>) -> String {
-    String::from_utf8(output).expect("text")
-}
-
-/// A program for `--replay`: a shell script with this line.
-fn script(name: &str, line: &str) -> String {
-    use std::os::unix::fs::PermissionsExt;
-    let path = place(name);
-    fs::write(&path, format!("#!/bin/sh\n{line}\n")).expect("written");
-    fs::set_permissions(&path, fs::Permissions::from_mode(0o755)).expect("executable");
-    path.to_str().expect("UTF-8").to_string()
 }
 
 fn compare(program: &str, count: &str) -> (i32, String, String) {
@@ -326,21 +284,6 @@ fn a_closed_pipe_is_no_panic() {
         let output = child.wait_with_output().expect("second ends");
         assert!(output.stderr.is_empty());
         assert!(output.status.code().is_some_and(|status| status < 2));
-    }
-}
-
-#[test]
-fn broken_streams_are_told_from_good_ones() {
-    let second = env!("CARGO_BIN_EXE_second");
-    let right = script("answers", &format!("exec {second} answer"));
-    let (status, output, _) = run(&["broken", "--replay", &right], &[]);
-    assert_eq!(status, 0, "{}", text(output));
-    // One that loses what was answered before, and one that says nothing
-    let loses = script("loses", &format!("exec {second} answer | head -c 100"));
-    let silent = script("silent", &format!("exec {second} answer 2> /dev/null"));
-    for program in [loses, silent] {
-        let (status, _, errors) = run(&["broken", "--replay", &program], &[]);
-        assert_eq!((status, errors.lines().count()), (1, 1), "{errors}");
     }
 }
 
