@@ -9,6 +9,10 @@ use crate::loads::Report;
 use crate::questions::{Kind, Question, Reply};
 use crate::windows::{AS_DOUBLE, AS_SINGLE, AS_WHOLE};
 
+/// The answers of the address window and of the lane window.
+pub const PLACES: [&str; 3] = ["empty", "flash", "RAM"];
+pub const LANES: [&str; 4] = ["no such lane", "whole", "single", "double"];
+
 /// A question: what is asked, and of what is lent that which matters for it.
 pub fn question_in_words(question: &Question) -> String {
     match question.kind {
@@ -43,18 +47,16 @@ fn lane_in_words(lent: &Case, [register, way, width, lane]: [u64; 4]) -> String 
 }
 
 /// The answer of a window in short; the numbers that it leaves at 0 are told where they are not.
-fn window_in_short(kind: Kind, report: &Report) -> String {
+pub fn window_in_short(kind: Kind, report: &Report) -> String {
     let Report {
         answer,
         count,
         element,
         address,
     } = *report;
-    const PLACES: [&str; 3] = ["empty", "flash", "RAM"];
-    const SHOWN: [&str; 4] = ["no such lane", "whole", "single", "double"];
     let (names, what) = match kind {
         Kind::AddressWindow => (&PLACES[..], format!("offset {count}, length {element}")),
-        _ => (&SHOWN[..], format!("bits {count:#x}, element {element}")),
+        _ => (&LANES[..], format!("bits {count:#x}, element {element}")),
     };
     let name = names.get(usize::from(answer)).unwrap_or(&"no such answer");
     format!("{answer} {name}, {what}, address {address:#x}")

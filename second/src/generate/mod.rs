@@ -8,9 +8,11 @@ mod around;
 mod predicate;
 mod spoil;
 mod values;
+mod windows;
 mod word;
 
 pub use aim::distance;
+pub use windows::window;
 
 use crate::cases::Case;
 use crate::decode::{decode, Load};

@@ -1,12 +1,15 @@
 //! Deliberately wrong interpreters. A set of cases is worth something if it tells each of them
 //! from the right one. A variant bends one small rule (`bent.rs`), or does something of its own
 //! with the right interpreter's help (`instead.rs`), for example with the copies of a block
-//! (`copies.rs`) or where all elements lie together (`stretch.rs`).
+//! (`copies.rs`) or where all elements lie together (`stretch.rs`). `windows.rs` has the wrong windows.
 
 mod bent;
 mod copies;
 mod instead;
 mod stretch;
+mod windows;
+
+pub use windows::{WindowVariant, WINDOW_VARIANTS};
 
 use crate::cases::{Case, Outcome};
 use crate::rules::Rules;
