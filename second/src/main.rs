@@ -270,13 +270,16 @@ fn run_sample(words: &[String]) -> Result<(), Trouble> {
         }
     }
     say(&format!(
-        "{} cases of seed {seed}, {} of them lie together, and {more} more, {} + {} bytes; \
-         {} cells covered, each family with each answer at least {EACH} times\n",
+        "{}{} cases of seed {seed}, {} of them lie together, {} questions for the windows, and {more} \
+         more, {} + {} bytes; {} + {} cells covered, each family with each answer at least {EACH} times\n",
+        sample.coverage.in_words(),
         sample.numbers.len(),
         sample.together,
+        sample.windows.len(),
         sample.cases.len(),
         sample.outcomes.len(),
         sample.cells.len(),
+        sample.window_cells.len(),
     ))
 }
 

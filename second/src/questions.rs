@@ -9,7 +9,7 @@ use crate::reading::read_numbers;
 use crate::windows::{address_window, lane_window};
 
 /// Which question a case asks.
-#[derive(Clone, Copy, Debug, PartialEq, Eq, PartialOrd, Ord)]
+#[derive(Clone, Copy, Debug, PartialEq, Eq, PartialOrd, Ord, Hash)]
 pub enum Kind {
     Step = 0,
     AddressWindow = 2,

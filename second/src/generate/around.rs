@@ -89,7 +89,7 @@ const MANNERS: [Manner; 10] = [
 ];
 
 /// In so many of a hundred areas the stretch may lie in any of sixteen pages.
-const FAR: u64 = 7;
+const FAR: u64 = 8;
 /// And in so many all sixteen are lent, with rights that only those touched have, or only they have not.
 const SIXTEEN: u64 = 2;
 
@@ -182,7 +182,7 @@ fn home(
         _ if size == Size::Sixteen => {
             rng.pick([Manner::Touched, Manner::Touched, Manner::NotTouched])
         }
-        _ if size == Size::Far && rng.percent(25) => Manner::NotTouched,
+        _ if size == Size::Far && rng.percent(40) => Manner::NotTouched,
         Place::AcrossPages if amiss => rng.pick([Manner::NotFirst, Manner::NotLast]),
         // Over the edge the stretch is denied
         Place::PageStart | Place::PageEnd if amiss => Manner::Touched,
