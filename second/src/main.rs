@@ -1,9 +1,9 @@
 //! The commands of `second`.
 
+mod files;
 mod options;
 
 use std::env;
-use std::fs;
 use std::io::{self, BufReader, Write};
 use std::process::ExitCode;
 use std::time::Instant;
@@ -24,6 +24,7 @@ use second::tally::{Tally, WindowTally};
 use second::telling::{question_in_words, reply_in_short};
 use second::words::judge;
 
+use files::{check_file, read_file, write_file};
 use options::{usage, Options, Trouble};
 
 const HELP: &str = "\
@@ -221,11 +222,6 @@ fn run_case(words: &[String]) -> Result<(), Trouble> {
     ))
 }
 
-fn write_file(file: &str, bytes: &[u8]) -> Result<(), Trouble> {
-    fs::write(file, bytes)
-        .map_err(|error| Trouble::Line(2, format!("cannot write {file}: {error}")))
-}
-
 fn run_sharp(words: &[String]) -> Result<(), Trouble> {
     let options = Options::read(words, &["--seed", "--limit"], &[])?;
     let seed = options.number("--seed", Some(1))?;
@@ -295,20 +291,6 @@ fn put_behind(sample: &mut Sample, file: &str) -> Result<u64, Trouble> {
         })?;
     sample.cases.extend(cases);
     Ok(more)
-}
-
-fn read_file(file: &str) -> Result<Vec<u8>, Trouble> {
-    fs::read(file).map_err(|error| Trouble::Line(2, format!("cannot read {file}: {error}")))
-}
-
-fn check_file(file: &str, bytes: &[u8], seed: u64) -> Result<(), Trouble> {
-    let read = read_file(file)?;
-    if read == bytes {
-        return Ok(());
-    }
-    let same = read.iter().zip(bytes).take_while(|(a, b)| a == b).count();
-    let line = format!("{file} is not the sample of seed {seed}: it differs from byte {same} on");
-    Err(Trouble::Line(1, line))
 }
 
 fn run_words(words: &[String]) -> Result<(), Trouble> {

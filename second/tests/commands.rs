@@ -4,6 +4,7 @@ mod programs;
 
 use std::fs;
 use std::process::{Command, Stdio};
+use std::sync::OnceLock;
 
 use programs::{place, run, script, text, SECOND};
 
@@ -32,10 +33,17 @@ impl Files {
         [command, &files].concat()
     }
 
-    /// A sample of a seed is written to them.
-    fn sampled(test: &str, seed: &str) -> Files {
+    /// The sample of seed 1, which is made once for all tests.
+    fn sampled(test: &str) -> Files {
+        static MADE: OnceLock<[Vec<u8>; 2]> = OnceLock::new();
+        let [cases, outcomes] = MADE.get_or_init(|| {
+            let made = Files::of("made");
+            assert_eq!(run(&made.with(&["sample", "--seed", "1"]), &[]).0, 0);
+            [read(&made.cases), read(&made.outcomes)]
+        });
         let files = Files::of(test);
-        assert_eq!(run(&files.with(&["sample", "--seed", seed]), &[]).0, 0);
+        fs::write(&files.cases, cases).expect("written");
+        fs::write(&files.outcomes, outcomes).expect("written");
         files
     }
 }
@@ -90,7 +98,7 @@ fn answer_ends_with_one_line_at_a_bad_case() {
 
 #[test]
 fn both_shapes_of_the_step_answer_and_agree() {
-    let files = Files::sampled("shapes", "5");
+    let files = Files::sampled("shapes");
     for arguments in [vec!["answer"], vec!["answer", "--plain"]] {
         let (status, output, _) = run(&arguments, &read(&files.cases));
         assert_eq!(status, 0);
@@ -150,54 +158,6 @@ fn compare_shows_the_first_difference() {
     }
     let repeat = output.lines().last().expect("a line");
     assert!(repeat.starts_with("repeat: second case --seed 4 --number "));
-}
-
-/// Compares questions for the windows.
-fn compare_kinds(program: &str, count: &str) -> (i32, String) {
-    let arguments = [
-        "compare", "--kinds", "--seed", "4", "--count", count, "--replay", program,
-    ];
-    let (status, output, _) = run(&arguments, &[]);
-    (status, text(output))
-}
-
-#[test]
-fn windows_are_compared_by_kind_and_answer() {
-    let program = script("same-kinds", &format!("exec '{SECOND}' answer"));
-    let (status, output) = compare_kinds(&program, "3000");
-    assert_eq!(status, 0);
-    let lines: Vec<&str> = output.lines().collect();
-    assert!(lines[0].starts_with("address window") && lines[1].starts_with("lane window"));
-    let counts = |line: &str| -> Vec<u64> {
-        let cells = line.split_whitespace();
-        cells.filter_map(|cell| cell.parse().ok()).collect()
-    };
-    let counted = [counts(lines[0]), counts(lines[1])];
-    assert_eq!((counted[0].len(), counted[1].len()), (3, 4));
-    assert!(
-        counted.iter().flatten().all(|count| *count > 100),
-        "{output}"
-    );
-    assert_eq!(counted.iter().flatten().sum::<u64>(), 3000);
-    assert!(lines[2].starts_with("3000 questions of seed 4 in ") && lines.len() == 3);
-}
-
-#[test]
-fn compare_shows_the_first_window_that_differs() {
-    let line = format!("'{SECOND}' answer | tr '\\002' '\\001'");
-    let (status, output) = compare_kinds(&script("other-kinds", &line), "3000");
-    assert_eq!(status, 1);
-    for part in ["difference at case", " window: ", "second: ", "replay: "] {
-        assert!(output.contains(part), "{part}: {output}");
-    }
-    let repeat = output.lines().last().expect("a line");
-    let again = "repeat: second case --kinds --seed 4 --number ";
-    let number = repeat.strip_prefix(again).expect(again);
-    let case = ["case", "--kinds", "--seed", "4", "--number", number];
-    let (status, shown, _) = run(&case, &[]);
-    assert_eq!(status, 0);
-    let shown = text(shown);
-    assert!(shown.contains(" window: ") && shown.contains("outcome\n"));
 }
 
 #[test]
@@ -264,7 +224,7 @@ fn sharp_tells_all_apart_or_says_so() {
 
 #[test]
 fn a_sample_is_written_and_checked() {
-    let files = Files::sampled("sample", "1");
+    let files = Files::sampled("sample");
     let check = files.with(&["sample", "--seed", "1", "--check"]);
     let (status, output, _) = run(&check, &[]);
     assert_eq!(status, 0);
@@ -289,7 +249,7 @@ fn a_sample_is_written_and_checked() {
 
 #[test]
 fn more_cases_stand_behind_a_sample() {
-    let (own, with) = (Files::sampled("own", "1"), Files::of("with"));
+    let (own, with) = (Files::sampled("own"), Files::of("with"));
     let more = place("more");
     let more = more.to_str().expect("UTF-8");
     let case = ["case", "--seed", "9", "--number", "4", "--bytes", more];
@@ -340,7 +300,7 @@ fn a_closed_pipe_is_no_panic() {
 
 #[test]
 fn pairs_are_woven_and_held() {
-    let files = Files::sampled("woven", "3");
+    let files = Files::sampled("woven");
     let weave = files.with(&["weave"]);
     let (status, pairs, _) = run(&weave, &[]);
     assert_eq!(status, 0);

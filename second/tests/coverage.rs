@@ -32,6 +32,10 @@ fn what_cannot_be_is_known_and_nothing_else_is_left_out() {
     // Families with answers: six each, undefined for six of them, and two without a family
     let by_hand = (9 * 6 + 6 + 2) + 10 * 17 + 10 * 7 + (8 * 16 + 1) + (8 * 7 - 1) + 17 * 7;
     assert_eq!(pairs().len(), by_hand);
+}
+
+#[test]
+fn what_cannot_be_has_a_cause() {
     let never = [
         (
             mark(Axis::Family, "LD1 immediate"),

@@ -229,66 +229,52 @@ fn pattern(rng: &mut Rng, way: u64, width: u64, lane: &mut [u8]) {
     }
 }
 
-/// Makes at most one thing wrong; a number of more than 32 bits is not the number that its lower half is.
+/// A number that is the one given only in its lower half.
+const HIGH: u64 = 1 << 32;
+
+/// Makes at most one thing wrong.
 fn make_wrong(rng: &mut Rng, bench: &mut Bench, numbers: &mut [u64; 4]) {
     let [register, way, width, lane] = numbers;
-    let high = 1 << 32;
-    let any = rng.next_u64();
     match rng.pick(WRONGS) {
         Wrong::Nothing => {}
-        Wrong::Register => {
-            let large = *register + 32 * (1 + rng.below(1000));
-            *register = rng.pick([
-                32,
-                32,
-                33,
-                large,
-                high,
-                high + *register,
-                u64::MAX,
-                any | 32,
-            ]);
-        }
-        Wrong::Way => *way = rng.pick([1, 2, 3, 3, 3, 4, high, high + 1, u64::MAX]),
+        Wrong::Register => *register = no_register(rng, *register),
+        Wrong::Way => *way = rng.pick([1, 2, 3, 3, 3, 4, HIGH, HIGH + 1, u64::MAX]),
         Wrong::Width => {
-            *width = rng.pick([8, 16, 32, 64, 0, 1, 24, 128, high + 32, high + 64, u64::MAX]);
+            let widths = [8, 16, 32, 64, 0, 1, 24, 128, HIGH + 32, HIGH + 64, u64::MAX];
+            *width = rng.pick(widths);
         }
-        Wrong::Lane => {
-            let lanes = bench.vl / *width;
-            let more = lanes + rng.below(3 * lanes);
-            *lane = rng.pick([
-                lanes,
-                lanes,
-                lanes,
-                more,
-                high,
-                high + *lane,
-                u64::MAX,
-                any | 256,
-            ]);
-        }
+        Wrong::Lane => *lane = no_lane(rng, bench.vl / *width, *lane),
         Wrong::File => {
             let length = bench.z.len();
-            let wrong = rng.pick([
-                length - 1,
-                length + 1,
-                length - 1,
-                length + 1,
-                0,
-                2 * length,
-            ]);
+            let (less, more) = (length - 1, length + 1);
+            let wrong = rng.pick([less, more, less, more, 0, 2 * length]);
             bench.z.resize(wrong, 0x55);
         }
-        Wrong::VectorLength => {
-            bench.vl = match rng.below(4) {
-                0 => bench.vl + (1 << rng.pick([12, 32, 61, 62])),
-                1 => bench.vl + rng.pick([1, 8, 64]),
-                _ => rng.pick([0, 64, 192, 2112, 2176, 2176, 4096]),
-            };
-            let size = VECTORS * (bench.vl / 8);
-            if size <= 65_536 && rng.percent(90) {
-                bench.z.resize(size as usize, 0x66);
-            }
-        }
+        Wrong::VectorLength => wrong_length(rng, bench),
+    }
+}
+
+fn no_register(rng: &mut Rng, register: u64) -> u64 {
+    let any = rng.next_u64() | 32;
+    let large = register + 32 * (1 + rng.below(1000));
+    rng.pick([32, 32, 33, large, HIGH, HIGH + register, u64::MAX, any])
+}
+
+fn no_lane(rng: &mut Rng, lanes: u64, lane: u64) -> u64 {
+    let any = rng.next_u64() | 256;
+    let more = lanes + rng.below(3 * lanes);
+    rng.pick([lanes, lanes, lanes, more, HIGH, HIGH + lane, u64::MAX, any])
+}
+
+/// A length that is not allowed, mostly with a file as long as it asks.
+fn wrong_length(rng: &mut Rng, bench: &mut Bench) {
+    bench.vl = match rng.below(4) {
+        0 => bench.vl + (1 << rng.pick([12, 32, 61, 62])),
+        1 => bench.vl + rng.pick([1, 8, 64]),
+        _ => rng.pick([0, 64, 192, 2112, 2176, 2176, 4096]),
+    };
+    let size = VECTORS.saturating_mul(bench.vl / 8);
+    if size <= 65_536 && rng.percent(90) {
+        bench.z.resize(size as usize, 0x66);
     }
 }

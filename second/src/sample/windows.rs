@@ -232,26 +232,11 @@ fn cells_of_what_is_shown(
 
 fn cells_of_a_lane(bench: &Bench, numbers: [u64; 4], report: &Report) -> Vec<WindowCell> {
     let [register, way, width, lane] = numbers;
+    let wrong = [Refusal::VectorLength, Refusal::VectorFile];
+    if wrong.iter().any(|cause| cause.applies(&Right, bench)) {
+        return cells_of_a_wrong_file(bench).into_iter().collect();
+    }
     let mut cells = Vec::new();
-    let length = Right.vl_allowed(bench.vl);
-    let should = u128::from(bench.vl) * 4;
-    let had = bench.z.len() as u128;
-    if !length && had == should {
-        cells.push(WindowCell::WrongLength);
-    }
-    if !length || had != should {
-        let short = [
-            (had + 1 == should, WindowCell::FileShort),
-            (had == should + 1, WindowCell::FileLong),
-        ];
-        cells.extend(
-            short
-                .into_iter()
-                .filter(|(met, _)| *met && length)
-                .map(|(_, cell)| cell),
-        );
-        return cells;
-    }
     let lanes = bench.vl.checked_div(width).unwrap_or(0);
     let [register_is, lane_is] = [register < 32, lane < lanes];
     if register_is && (lane_is || !WIDTHS.contains(&width)) {
@@ -272,10 +257,20 @@ fn cells_of_a_lane(bench: &Bench, numbers: [u64; 4], report: &Report) -> Vec<Win
     cells
 }
 
+/// A VL that is not allowed with the file that it asks for, or a file that is a byte off.
+fn cells_of_a_wrong_file(bench: &Bench) -> Option<WindowCell> {
+    let (should, had) = (u128::from(bench.vl) * 4, bench.z.len() as u128);
+    match Right.vl_allowed(bench.vl) {
+        false => (had == should).then_some(WindowCell::WrongLength),
+        true if had + 1 == should => Some(WindowCell::FileShort),
+        true => (had == should + 1).then_some(WindowCell::FileLong),
+    }
+}
+
 fn cells_of_a_lane_number(lanes: u64, lane: u64) -> Vec<WindowCell> {
     let found = [
         (lane == 0, WindowCell::Lane(At::First)),
-        (lane + 1 == lanes || lanes == 0, WindowCell::Lane(At::Last)),
+        (lane == lanes.wrapping_sub(1), WindowCell::Lane(At::Last)),
         (lane == lanes, WindowCell::Lane(At::OneBehind)),
         (lane == u64::MAX, WindowCell::LaneMost),
     ];
