@@ -2,7 +2,9 @@
 
 use std::io::{self, BufReader, BufWriter, Read, Write};
 
-use crate::cases::{BadInput, Case, Step};
+use crate::cases::Step;
+use crate::questions::Question;
+use crate::reading::BadInput;
 
 /// Why the run ended early.
 pub enum Ended {
@@ -16,7 +18,7 @@ impl From<io::Error> for Ended {
     }
 }
 
-/// Answers case after case by a step. What was answered before a bad case stands.
+/// Answers case after case, of any kind, steps by a step of this shape. What was answered before a bad case stands.
 pub fn answer(input: impl Read, output: impl Write, step: Step) -> Result<u64, Ended> {
     let mut input = BufReader::with_capacity(1 << 18, input);
     let mut output = BufWriter::with_capacity(1 << 16, output);
@@ -27,10 +29,10 @@ pub fn answer(input: impl Read, output: impl Write, step: Step) -> Result<u64, E
             // We may have to wait for the next case: whoever writes may wait for these outcomes
             output.flush()?;
         }
-        match Case::read(&mut input) {
-            Ok(Some(case)) => {
+        match Question::read(&mut input) {
+            Ok(Some(question)) => {
                 bytes.clear();
-                case.into_outcome_by(step).write(&mut bytes);
+                question.into_reply_by(step).write(&mut bytes);
                 output.write_all(&bytes)?;
                 number += 1;
             }

@@ -1,79 +1,61 @@
 //! Generated cases go through another program of the same job, or through a step of another shape,
 //! and the outcomes are compared with our own.
 
-use std::io::{self, BufReader, BufWriter, IsTerminal, Read, Write};
+use std::io::{self, BufReader, BufWriter, Read, Write};
 use std::process::{Child, ChildStdin, ChildStdout, Command, Stdio};
 use std::thread;
-use std::time::{Duration, Instant};
+use std::time::Duration;
 
-use crate::cases::{Case, Outcome, Step};
-use crate::decode::Family;
-use crate::describe::{case_in_words, differences_in_words, report_in_short};
+use crate::cases::Step;
 use crate::generate;
-use crate::machine::Answer;
+use crate::progress::Progress;
+use crate::questions::{Question, Reply};
 use crate::rules::Right;
-use crate::together::lies_together;
+use crate::tally::Tally;
+use crate::telling::{question_in_words, replies_that_differ, reply_in_short};
 
 /// What a comparison found.
 pub enum Found {
     /// All outcomes are the same.
-    NoDifference(Box<Tally>),
+    NoDifference,
     /// The first case with another outcome, in words.
     Difference(String),
     /// The other program could not be run to its end.
     Trouble(String),
 }
 
-/// How many cases of each family (and of none) gave which answer, and how many lay together.
-#[derive(Default)]
-pub struct Tally {
-    rows: [[u64; Answer::ALL.len()]; Family::ALL.len() + 1],
-    together: [u64; Family::ALL.len() + 1],
+/// The first `count` questions that a seed makes: steps or windows.
+#[derive(Clone, Copy)]
+pub struct Questions {
+    pub seed: u64,
+    pub count: u64,
+    pub windows: bool,
 }
 
-impl Tally {
-    fn add(&mut self, word: u32, together: bool, answer: u8) {
-        let row = Family::of(word).map_or(Family::ALL.len(), |family| family as usize);
-        self.together[row] += u64::from(together);
-        if let Some(cell) = self.rows[row].get_mut(usize::from(answer)) {
-            *cell += 1;
+impl Questions {
+    fn question(self, number: u64) -> Question {
+        if self.windows {
+            generate::window(self.seed, number)
+        } else {
+            generate::case(self.seed, number).into()
         }
     }
 
-    /// A table by family and answer, and how many cases lay together: by family in the last column, of
-    /// all in the line below.
-    pub fn in_words(&self) -> String {
-        let mut text = format!("{:<16}", "answer");
-        let answers = Answer::ALL.map(|answer| Answer::name(answer.number()));
-        for name in answers.into_iter().chain(["together"]) {
-            text += &format!(" {name:>12}");
-        }
-        let names = Family::ALL
-            .map(Family::name)
-            .into_iter()
-            .chain(["no family"]);
-        for ((name, row), together) in names.zip(&self.rows).zip(&self.together) {
-            text += &format!("\n{name:<16}");
-            for cell in row.iter().chain([together]) {
-                text += &format!(" {cell:>12}");
-            }
-        }
-        let together = self.together();
-        let cases: u64 = self.rows.iter().flatten().sum();
-        let share = 1000 * together / cases.max(1);
-        let (percent, tenth) = (share / 10, share % 10);
-        text + &format!("\n{together} of {cases} cases, {percent}.{tenth} %, lie together\n")
-    }
-
-    /// How many cases lay together.
-    pub fn together(&self) -> u64 {
-        self.together.iter().sum()
+    /// The options that make a question again.
+    fn again(self, number: u64) -> String {
+        let kinds = if self.windows { " --kinds" } else { "" };
+        format!("second case{kinds} --seed {} --number {number}", self.seed)
     }
 }
 
-/// Compares `count` cases of a seed with the outcomes of a program. Both threads make the cases
-/// by themselves, so that however much the program buffers, neither waits for the other.
-pub fn compare(seed: u64, count: u64, program: &str) -> Found {
+/// Compares questions with the outcomes of a program; each one that agrees is shown to `seen`. Both
+/// threads make the questions by themselves, so that however much the program buffers, neither waits
+/// for the other.
+pub fn compare(
+    questions: Questions,
+    program: &str,
+    seen: &mut dyn FnMut(&Question, &Reply),
+) -> Found {
     let mut child = match start(program) {
         Ok(child) => child,
         Err(error) => return Found::Trouble(format!("cannot start {program}: {error}")),
@@ -83,15 +65,15 @@ pub fn compare(seed: u64, count: u64, program: &str) -> Found {
     };
     let found = thread::scope(|scope| {
         // A program that ends early closes the pipe; the reading side says so
-        scope.spawn(move || write_cases(seed, count, stdin).unwrap_or_default());
-        let found = read_outcomes(seed, count, program, stdout);
-        if !matches!(found, Found::NoDifference(_)) {
+        scope.spawn(move || write_cases(questions, stdin).unwrap_or_default());
+        let found = read_outcomes(questions, program, stdout, seen);
+        if !matches!(found, Found::NoDifference) {
             end(&mut child);
         }
         found
     });
     match (found, child.wait()) {
-        (Found::NoDifference(_), Ok(status)) if !status.success() => Found::Trouble(format!(
+        (Found::NoDifference, Ok(status)) if !status.success() => Found::Trouble(format!(
             "{program} answered every case, then ended with {status}"
         )),
         (Found::Trouble(why), Ok(status)) if status.code().is_some() => {
@@ -120,28 +102,32 @@ fn end(child: &mut Child) {
     let _ = child.kill();
 }
 
-fn write_cases(seed: u64, count: u64, stdin: ChildStdin) -> io::Result<()> {
+fn write_cases(questions: Questions, stdin: ChildStdin) -> io::Result<()> {
     let mut stdin = BufWriter::with_capacity(1 << 18, stdin);
     let mut bytes = Vec::new();
-    for number in 0..count {
+    for number in 0..questions.count {
         bytes.clear();
-        generate::case(seed, number).write(&mut bytes);
+        questions.question(number).write(&mut bytes);
         stdin.write_all(&bytes)?;
     }
     stdin.flush()
 }
 
-fn read_outcomes(seed: u64, count: u64, program: &str, stdout: ChildStdout) -> Found {
+fn read_outcomes(
+    questions: Questions,
+    program: &str,
+    stdout: ChildStdout,
+    seen: &mut dyn FnMut(&Question, &Reply),
+) -> Found {
+    let count = questions.count;
     let mut stdout = BufReader::with_capacity(1 << 18, stdout);
-    let mut tally = Box::<Tally>::default();
     let mut progress = Progress::new(count);
     let (mut ours, mut theirs) = (Vec::new(), Vec::new());
     for number in 0..count {
-        let case = generate::case(seed, number);
-        let (word, together) = (case.word, lies_together(&case));
-        let outcome = case.into_outcome(&Right);
+        let question = questions.question(number);
+        let reply = question.reply();
         ours.clear();
-        outcome.write(&mut ours);
+        reply.write(&mut ours);
         theirs.resize(ours.len(), 0);
         if let Err(error) = stdout.read_exact(&mut theirs) {
             progress.end();
@@ -149,18 +135,18 @@ fn read_outcomes(seed: u64, count: u64, program: &str, stdout: ChildStdout) -> F
         }
         if ours != theirs {
             progress.end();
-            let read = Outcome::read(&mut &theirs[..], outcome.z.len(), outcome.x.len());
+            let read = Reply::read(&mut &theirs[..], &question);
             return Found::Difference(match read {
-                Ok(read) => difference(seed, number, ["second", "replay"], [&outcome, &read]),
-                Err(_) => format!("case {number} of seed {seed} differs\n"),
+                Ok(read) => difference(questions, number, ["second", "replay"], [&reply, &read]),
+                Err(_) => format!("case {number} of seed {} differs\n", questions.seed),
             });
         }
-        tally.add(word, together, outcome.report.answer);
+        seen(&question, &reply);
         progress.at(number + 1);
     }
     progress.end();
     match stdout.read(&mut [0]) {
-        Ok(0) => Found::NoDifference(tally),
+        Ok(0) => Found::NoDifference,
         _ => Found::Trouble(format!("{program} wrote more than {count} outcomes")),
     }
 }
@@ -174,81 +160,41 @@ fn early_end(program: &str, number: u64, count: u64, error: &io::Error) -> Strin
 }
 
 /// The case and both outcomes in words, and how to see them again.
-fn difference(seed: u64, number: u64, names: [&str; 2], outcomes: [&Outcome; 2]) -> String {
-    let case: Case = generate::case(seed, number);
+fn difference(questions: Questions, number: u64, names: [&str; 2], replies: [&Reply; 2]) -> String {
+    let question = questions.question(number);
     let [name_a, name_b] = names;
-    let [a, b] = outcomes.map(|outcome| report_in_short(&outcome.report));
+    let [a, b] = replies.map(|reply| reply_in_short(question.kind, reply));
     format!(
-        "difference at case {number} of seed {seed}\n{}{name_a}: {a}\n{name_b}: {b}\n{}\
-         repeat: second case --seed {seed} --number {number}\n",
-        case_in_words(&case),
-        differences_in_words(&case, names, outcomes),
+        "difference at case {number} of seed {}\n{}{name_a}: {a}\n{name_b}: {b}\n{}repeat: {}\n",
+        questions.seed,
+        question_in_words(&question),
+        replies_that_differ(&question, names, replies),
+        questions.again(number)
     )
 }
 
 /// Compares the step that follows the pages with one of another shape, case by case; what the cases
 /// were, or the first difference in words.
 pub fn agree(seed: u64, count: u64, other: Step) -> Result<Tally, String> {
+    let questions = Questions {
+        seed,
+        count,
+        windows: false,
+    };
     let mut tally = Tally::default();
     let mut progress = Progress::new(count);
     for number in 0..count {
         let case = generate::case(seed, number);
-        let (word, together) = (case.word, lies_together(&case));
         let theirs = case.outcome_by(other);
-        let ours = case.into_outcome(&Right);
+        let ours = case.outcome_under(&Right);
         if ours != theirs {
             progress.end();
-            let names = ["pages", "plain"];
-            return Err(difference(seed, number, names, [&ours, &theirs]));
+            let replies = [&Reply::Step(ours), &Reply::Step(theirs)];
+            return Err(difference(questions, number, ["pages", "plain"], replies));
         }
-        tally.add(word, together, ours.report.answer);
+        tally.add(&case, ours.report.answer);
         progress.at(number + 1);
     }
     progress.end();
     Ok(tally)
-}
-
-/// The progress line on standard error: overwritten on a terminal, now and then one in a pipe.
-struct Progress {
-    count: u64,
-    began: Instant,
-    last: Instant,
-    terminal: bool,
-    shown: bool,
-}
-
-impl Progress {
-    fn new(count: u64) -> Progress {
-        let now = Instant::now();
-        Progress {
-            count,
-            began: now,
-            last: now,
-            terminal: io::stderr().is_terminal(),
-            shown: false,
-        }
-    }
-
-    fn at(&mut self, done: u64) {
-        let pause = Duration::from_millis(if self.terminal { 300 } else { 10_000 });
-        if done % 64 != 0 || self.last.elapsed() < pause {
-            return;
-        }
-        self.last = Instant::now();
-        self.shown = true;
-        let rate = u128::from(done) * 1000 / self.began.elapsed().as_millis().max(1);
-        let line = format!("{done} of {} cases, {rate} a second", self.count);
-        let mut stderr = io::stderr().lock();
-        let _ = if self.terminal {
-            write!(stderr, "\r{line}    ")
-        } else {
-            writeln!(stderr, "{line}")
-        };
-    }
-
-    fn end(&self) {
-        if self.terminal && self.shown {
-            let _ = writeln!(io::stderr());
-        }
-    }
 }

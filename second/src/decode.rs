@@ -4,7 +4,7 @@ use crate::machine::Answer;
 use crate::rules::{Dtype, Rules};
 
 /// The nine rows of document 01's family table.
-#[derive(Clone, Copy, Debug, PartialEq, Eq, PartialOrd, Ord)]
+#[derive(Clone, Copy, Debug, PartialEq, Eq, PartialOrd, Ord, Hash)]
 pub enum Family {
     Ld1rNoOffset,
     Ld1rPostIndex,

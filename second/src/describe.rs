@@ -99,7 +99,7 @@ fn predicate_in_words(load: &Load, bench: &Bench) -> String {
     )
 }
 
-fn area_in_words(name: &str, area: &Area) -> String {
+pub fn area_in_words(name: &str, area: &Area) -> String {
     let mut text = format!(
         "  {name}: start {:#x}, {} bytes, {} rights bytes for {} pages begun\n",
         area.start,
@@ -120,7 +120,7 @@ fn area_in_words(name: &str, area: &Area) -> String {
 }
 
 /// Every cause of answer 1 that applies, lengths with what they should be.
-fn wrongs_in_words(bench: &Bench) -> String {
+pub fn wrongs_in_words(bench: &Bench) -> String {
     let vl = u128::from(bench.vl);
     let mut text = String::new();
     for cause in Refusal::ALL {

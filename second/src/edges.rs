@@ -6,7 +6,7 @@ use crate::machine::{Answer, Area, Bench, PAGE};
 use crate::together::{readable, Stretch};
 
 /// Where the stretch of a load that comes to read meets an edge.
-#[derive(Clone, Copy, Debug, PartialEq, Eq)]
+#[derive(Clone, Copy, Debug, PartialEq, Eq, Hash)]
 pub enum Edge {
     // Of elements that lie together
     AreaStart,

@@ -76,7 +76,7 @@ impl Bench {
 }
 
 /// The eight answers and their numbers in document 01.
-#[derive(Clone, Copy, Debug, PartialEq, Eq, PartialOrd, Ord)]
+#[derive(Clone, Copy, Debug, PartialEq, Eq, PartialOrd, Ord, Hash)]
 pub enum Answer {
     Ran = 0,
     SetUp = 1,
@@ -142,7 +142,7 @@ impl From<Answer> for Stop {
 }
 
 /// The causes of answer 1, in the order in which document 01 lists them.
-#[derive(Clone, Copy, Debug, PartialEq, Eq, PartialOrd, Ord)]
+#[derive(Clone, Copy, Debug, PartialEq, Eq, PartialOrd, Ord, Hash)]
 pub enum Refusal {
     VectorLength,
     VectorFile,

@@ -1,22 +1,31 @@
 //! The commands of `second`.
 
+mod files;
+mod options;
+
 use std::env;
-use std::fs;
 use std::io::{self, BufReader, Write};
 use std::process::ExitCode;
 use std::time::Instant;
 
 use second::answer::{answer, Ended};
 use second::broken;
-use second::compare::{agree, compare, Found};
-use second::describe::{case_in_words, outcome_in_words};
+use second::compare::{agree, compare, Found, Questions};
+use second::describe::outcome_in_words;
 use second::generate;
+use second::holding::{self, Written};
 use second::loads::right_step;
 use second::plain;
+use second::questions::{Kind, Question, Reply};
 use second::recorded::{hold, weave, Bad};
 use second::sample::{sample, Sample, EACH};
-use second::sharp::sharp;
+use second::sharp::{sharp, sharp_windows};
+use second::tally::{Tally, WindowTally};
+use second::telling::{question_in_words, reply_in_short};
 use second::words::judge;
+
+use files::{check_file, read_file, write_file};
+use options::{usage, Options, Trouble};
 
 const HELP: &str = "\
 second: a second interpreter of Arm vector loads, written apart
@@ -26,12 +35,14 @@ second: a second interpreter of Arm vector loads, written apart
   second agree --seed S --count N
       compares the two shapes of the step over N generated cases; shows how many of which family gave
       which answer, and how many have all their elements together
-  second compare --seed S --count N [--replay PROGRAM]
-      compares N generated cases with PROGRAM (default ./replay); shows the same table
-  second broken [--seed S] [--replay PROGRAM]
-      sends broken streams through PROGRAM: what was answered stands, and one line says why
-  second case --seed S --number K [--bytes FILE]
-      shows one generated case and its outcome in words; writes its bytes
+  second compare [--kinds] --seed S --count N [--replay PROGRAM]
+      compares N generated cases with PROGRAM (default ./replay); shows the same table; --kinds:
+      questions for the two windows instead, by their answers
+  second broken [--seed S] [--replay PROGRAM] [--pieces]
+      sends broken streams through PROGRAM: what was answered stands, and one line says which case
+      is broken and why; --pieces: written in small pieces
+  second case [--kinds] --seed S --number K [--bytes FILE]
+      shows one generated case and its outcome in words; writes its bytes; --kinds: a window's
   second sharp [--seed S] [--limit N]
       how many cases tell each deliberately wrong variant apart (defaults 1 and 20000)
   second sample --seed S [--more CASES] [--check] --cases FILE --outcomes FILE
@@ -44,26 +55,6 @@ second: a second interpreter of Arm vector loads, written apart
   second weave --cases FILE --outcomes FILE > pairs
       makes such pairs of a stream of cases and the stream of their outcomes
 ";
-
-/// How a command ends other than well.
-enum Trouble {
-    /// One line on standard error, and this exit status.
-    Line(u8, String),
-    /// The exit status alone: everything was said.
-    Said(u8),
-    /// Standard output could not be written.
-    Output(io::Error),
-}
-
-impl From<io::Error> for Trouble {
-    fn from(error: io::Error) -> Trouble {
-        Trouble::Output(error)
-    }
-}
-
-fn usage(line: impl Into<String>) -> Trouble {
-    Trouble::Line(2, line.into())
-}
 
 fn main() -> ExitCode {
     let (status, line) = match run() {
@@ -114,59 +105,6 @@ fn say(text: &str) -> Result<(), Trouble> {
     Ok(out.flush()?)
 }
 
-/// The options of a command: `--name value` pairs, and flags without a value.
-struct Options {
-    given: Vec<(String, String)>,
-}
-
-impl Options {
-    fn read(words: &[String], values: &[&str], flags: &[&str]) -> Result<Options, Trouble> {
-        let mut given: Vec<(String, String)> = Vec::new();
-        let mut words = words.iter();
-        while let Some(name) = words.next() {
-            if given.iter().any(|(earlier, _)| earlier == name) {
-                return Err(usage(format!("{name} is given twice")));
-            }
-            let value = if flags.contains(&name.as_str()) {
-                String::new()
-            } else if values.contains(&name.as_str()) {
-                let value = words.next();
-                value
-                    .cloned()
-                    .ok_or_else(|| usage(format!("{name} needs a value")))?
-            } else {
-                return Err(usage(format!("no option {name} here; see second --help")));
-            };
-            given.push((name.clone(), value));
-        }
-        Ok(Options { given })
-    }
-
-    fn text(&self, name: &str) -> Option<&str> {
-        let mut given = self.given.iter();
-        given
-            .find(|(given, _)| given == name)
-            .map(|(_, value)| value.as_str())
-    }
-
-    fn needed(&self, name: &str) -> Result<&str, Trouble> {
-        self.text(name)
-            .ok_or_else(|| usage(format!("{name} is needed")))
-    }
-
-    fn number(&self, name: &str, default: Option<u64>) -> Result<u64, Trouble> {
-        let text = match (self.text(name), default) {
-            (None, Some(default)) => return Ok(default),
-            _ => self.needed(name)?,
-        };
-        let number = match text.strip_prefix("0x") {
-            Some(digits) => u64::from_str_radix(digits, 16),
-            None => text.parse(),
-        };
-        number.map_err(|_| usage(format!("{name} {text} is not a number of 64 bits")))
-    }
-}
-
 fn run_answer(words: &[String]) -> Result<(), Trouble> {
     let options = Options::read(words, &[], &["--plain"])?;
     let step = match options.text("--plain") {
@@ -197,67 +135,99 @@ fn run_agree(words: &[String]) -> Result<(), Trouble> {
 }
 
 fn run_compare(words: &[String]) -> Result<(), Trouble> {
-    let options = Options::read(words, &["--seed", "--count", "--replay"], &[])?;
-    let seed = options.number("--seed", None)?;
-    let count = options.number("--count", None)?;
+    let options = Options::read(words, &["--seed", "--count", "--replay"], &["--kinds"])?;
+    let questions = Questions {
+        seed: options.number("--seed", None)?,
+        count: options.number("--count", None)?,
+        windows: options.text("--kinds").is_some(),
+    };
     let program = options.text("--replay").unwrap_or("./replay");
     let began = Instant::now();
-    match compare(seed, count, program) {
+    let (mut steps, mut windows) = (Tally::default(), WindowTally::default());
+    let mut seen = |question: &Question, reply: &Reply| match question.kind {
+        Kind::Step => steps.add(&question.lent, reply.report().answer),
+        kind => windows.add(kind, reply.report().answer),
+    };
+    match compare(questions, program, &mut seen) {
         Found::Trouble(why) => Err(Trouble::Line(2, why)),
         Found::Difference(text) => {
             say(&text)?;
             Err(Trouble::Said(1))
         }
-        Found::NoDifference(tally) => {
-            let millis = began.elapsed().as_millis().max(1);
-            let rate = u128::from(count) * 1000 / millis;
-            say(&format!(
-                "{}{count} cases of seed {seed} in {}.{:03} s, {rate} a second: no difference\n",
-                tally.in_words(),
-                millis / 1000,
-                millis % 1000
-            ))
+        Found::NoDifference => {
+            let table = match questions.windows {
+                true => windows.in_words(),
+                false => steps.in_words(),
+            };
+            say(&(table + &no_difference(questions, began)))
         }
     }
 }
 
-fn run_broken(words: &[String]) -> Result<(), Trouble> {
-    let options = Options::read(words, &["--seed", "--replay"], &[])?;
-    let streams = broken::streams(options.number("--seed", Some(1))?);
-    let program = options.text("--replay").unwrap_or("./replay");
-    for stream in &streams {
-        broken::hold(program, stream).map_err(|why| Trouble::Line(1, why))?;
-    }
-    say(&format!("{} streams as they should be\n", streams.len()))
+/// The last line of a comparison without a difference.
+fn no_difference(questions: Questions, began: Instant) -> String {
+    let Questions {
+        seed,
+        count,
+        windows,
+    } = questions;
+    let what = if windows { "questions" } else { "cases" };
+    let millis = began.elapsed().as_millis().max(1);
+    let rate = u128::from(count) * 1000 / millis;
+    format!(
+        "{count} {what} of seed {seed} in {}.{:03} s, {rate} a second: no difference\n",
+        millis / 1000,
+        millis % 1000
+    )
 }
 
-fn run_case(words: &[String]) -> Result<(), Trouble> {
-    let options = Options::read(words, &["--seed", "--number", "--bytes"], &[])?;
-    let seed = options.number("--seed", None)?;
-    let number = options.number("--number", None)?;
-    let case = generate::case(seed, number);
-    if let Some(file) = options.text("--bytes") {
-        let mut bytes = Vec::new();
-        case.write(&mut bytes);
-        write_file(file, &bytes)?;
+fn run_broken(words: &[String]) -> Result<(), Trouble> {
+    let options = Options::read(words, &["--seed", "--replay"], &["--pieces"])?;
+    let streams = broken::streams(options.number("--seed", Some(1))?);
+    let program = options.text("--replay").unwrap_or("./replay");
+    let (written, how) = match options.text("--pieces") {
+        Some(_) => (Written::InPieces, "in pieces"),
+        None => (Written::AtOnce, "at once"),
+    };
+    for stream in &streams {
+        holding::hold(program, stream, written).map_err(|why| Trouble::Line(1, why))?;
     }
+    let all = streams.len();
     say(&format!(
-        "case {number} of seed {seed}\n{}outcome\n{}",
-        case_in_words(&case),
-        outcome_in_words(&case, &case.outcome())
+        "{all} streams, written {how}, as they should be\n"
     ))
 }
 
-fn write_file(file: &str, bytes: &[u8]) -> Result<(), Trouble> {
-    fs::write(file, bytes)
-        .map_err(|error| Trouble::Line(2, format!("cannot write {file}: {error}")))
+fn run_case(words: &[String]) -> Result<(), Trouble> {
+    let options = Options::read(words, &["--seed", "--number", "--bytes"], &["--kinds"])?;
+    let seed = options.number("--seed", None)?;
+    let number = options.number("--number", None)?;
+    let question = match options.text("--kinds") {
+        Some(_) => generate::window(seed, number),
+        None => generate::case(seed, number).into(),
+    };
+    if let Some(file) = options.text("--bytes") {
+        let mut bytes = Vec::new();
+        question.write(&mut bytes);
+        write_file(file, &bytes)?;
+    }
+    let reply = question.reply();
+    let outcome = match &reply {
+        Reply::Step(outcome) => outcome_in_words(&question.lent, outcome),
+        Reply::Window { .. } => format!("  {}\n", reply_in_short(question.kind, &reply)),
+    };
+    say(&format!(
+        "case {number} of seed {seed}\n{}outcome\n{outcome}",
+        question_in_words(&question),
+    ))
 }
 
 fn run_sharp(words: &[String]) -> Result<(), Trouble> {
     let options = Options::read(words, &["--seed", "--limit"], &[])?;
     let seed = options.number("--seed", Some(1))?;
     let limit = options.number("--limit", Some(20_000))?;
-    let told = sharp(seed, limit);
+    let mut told = sharp(seed, limit);
+    told.extend(sharp_windows(seed, limit));
     let mut text = String::new();
     for told in &told {
         let (cases, line) = match &told.by {
@@ -296,13 +266,16 @@ fn run_sample(words: &[String]) -> Result<(), Trouble> {
         }
     }
     say(&format!(
-        "{} cases of seed {seed}, {} of them lie together, and {more} more, {} + {} bytes; \
-         {} cells covered, each family with each answer at least {EACH} times\n",
+        "{}{} cases of seed {seed}, {} of them lie together, {} questions for the windows, and {more} \
+         more, {} + {} bytes; {} + {} cells covered, each family with each answer at least {EACH} times\n",
+        sample.coverage.in_words(),
         sample.numbers.len(),
         sample.together,
+        sample.windows.len(),
         sample.cases.len(),
         sample.outcomes.len(),
         sample.cells.len(),
+        sample.window_cells.len(),
     ))
 }
 
@@ -318,20 +291,6 @@ fn put_behind(sample: &mut Sample, file: &str) -> Result<u64, Trouble> {
         })?;
     sample.cases.extend(cases);
     Ok(more)
-}
-
-fn read_file(file: &str) -> Result<Vec<u8>, Trouble> {
-    fs::read(file).map_err(|error| Trouble::Line(2, format!("cannot read {file}: {error}")))
-}
-
-fn check_file(file: &str, bytes: &[u8], seed: u64) -> Result<(), Trouble> {
-    let read = read_file(file)?;
-    if read == bytes {
-        return Ok(());
-    }
-    let same = read.iter().zip(bytes).take_while(|(a, b)| a == b).count();
-    let line = format!("{file} is not the sample of seed {seed}: it differs from byte {same} on");
-    Err(Trouble::Line(1, line))
 }
 
 fn run_words(words: &[String]) -> Result<(), Trouble> {

@@ -3,8 +3,10 @@
 
 use std::io::Read;
 
-use crate::cases::{BadInput, Case, Outcome, Step};
-use crate::describe::{case_in_words, differences_in_words};
+use crate::cases::Step;
+use crate::questions::{Question, Reply};
+use crate::reading::BadInput;
+use crate::telling::{question_in_words, replies_that_differ};
 
 /// A pair that cannot be read, by its number.
 pub type Bad = (u64, BadInput);
@@ -17,20 +19,20 @@ pub struct Held {
     pub differences: Vec<String>,
 }
 
-/// Holds our outcome of each case, by a step, to the recorded one.
+/// Holds our outcome of each case, steps by a step of this shape, to the recorded one.
 pub fn hold(mut pairs: impl Read, step: Step) -> Result<Held, Bad> {
     let mut held = Held::default();
-    while let Some(case) = Case::read(&mut pairs).map_err(|why| (held.steps, why))? {
-        let recorded = recorded_outcome(&mut pairs, &case).map_err(|why| (held.steps, why))?;
-        let own = case.outcome_by(step);
+    while let Some(question) = Question::read(&mut pairs).map_err(|why| (held.steps, why))? {
+        let recorded = recorded_reply(&mut pairs, &question).map_err(|why| (held.steps, why))?;
+        let own = question.reply_by(step);
         if own == recorded {
             held.agree += 1;
         } else {
             held.differences.push(format!(
                 "step {} differs\n{}{}",
                 held.steps,
-                case_in_words(&case),
-                differences_in_words(&case, ["here", "recorded"], [&own, &recorded])
+                question_in_words(&question),
+                replies_that_differ(&question, ["here", "recorded"], [&own, &recorded])
             ));
         }
         held.steps += 1;
@@ -42,10 +44,10 @@ pub fn hold(mut pairs: impl Read, step: Step) -> Result<Held, Bad> {
 pub fn weave(mut cases: impl Read, mut outcomes: impl Read) -> Result<Vec<u8>, Bad> {
     let mut pairs = Vec::new();
     let mut number = 0;
-    while let Some(case) = Case::read(&mut cases).map_err(|why| (number, why))? {
-        case.write(&mut pairs);
-        let outcome = recorded_outcome(&mut outcomes, &case).map_err(|why| (number, why))?;
-        outcome.write(&mut pairs);
+    while let Some(question) = Question::read(&mut cases).map_err(|why| (number, why))? {
+        question.write(&mut pairs);
+        let reply = recorded_reply(&mut outcomes, &question).map_err(|why| (number, why))?;
+        reply.write(&mut pairs);
         number += 1;
     }
     let mut more = [0];
@@ -56,6 +58,6 @@ pub fn weave(mut cases: impl Read, mut outcomes: impl Read) -> Result<Vec<u8>, B
     }
 }
 
-fn recorded_outcome(from: &mut impl Read, case: &Case) -> Result<Outcome, BadInput> {
-    Ok(Outcome::read(from, case.bench.z.len(), case.bench.x.len())?)
+fn recorded_reply(from: &mut impl Read, question: &Question) -> Result<Reply, BadInput> {
+    Ok(Reply::read(from, question)?)
 }

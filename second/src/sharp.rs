@@ -4,7 +4,10 @@ use crate::assembly::text_or_why_not;
 use crate::cases::{Case, Outcome};
 use crate::describe::differences;
 use crate::generate;
-use crate::wrong::{Variant, VARIANTS};
+use crate::loads::Report;
+use crate::questions::Question;
+use crate::telling::window_in_short;
+use crate::wrong::{Variant, WindowVariant, VARIANTS, WINDOW_VARIANTS};
 
 /// A variant, and the first case that tells it apart, if one does.
 pub struct Told {
@@ -41,6 +44,36 @@ pub fn sharp(seed: u64, limit: u64) -> Vec<Told> {
         }
     }
     told
+}
+
+/// The same for the wrong windows and the questions of a seed.
+pub fn sharp_windows(seed: u64, limit: u64) -> Vec<Told> {
+    let tell = |variant: &WindowVariant| Told {
+        name: variant.name,
+        by: None,
+    };
+    let mut told: Vec<Told> = WINDOW_VARIANTS.iter().map(tell).collect();
+    for number in 0..limit {
+        if told.iter().all(|told| told.by.is_some()) {
+            break;
+        }
+        let question = generate::window(seed, number);
+        let right = question.window();
+        for (variant, told) in WINDOW_VARIANTS.iter().zip(&mut told) {
+            let wrong = variant.window(&question);
+            if told.by.is_none() && wrong != right {
+                let line = window_line(number, &question, [&right, &wrong]);
+                told.by = Some(First { number, line });
+            }
+        }
+    }
+    told
+}
+
+fn window_line(number: u64, question: &Question, reports: [&Report; 2]) -> String {
+    let [right, wrong] = reports.map(|report| window_in_short(question.kind, report));
+    let kind = question.kind.name();
+    format!("question {number}: {kind}; right: {right}; wrong: {wrong}")
 }
 
 /// The case in one line, with the first thing in which the two outcomes differ.

@@ -8,6 +8,7 @@ use second::cases::{Case, Outcome, Step};
 use second::generate;
 use second::loads::right_step;
 use second::plain;
+use second::questions::{Kind, Question, Reply};
 
 fn bytes(case: &Case) -> Vec<u8> {
     let mut bytes = Vec::new();
@@ -39,6 +40,76 @@ fn cases_and_outcomes_come_back_as_they_were() {
         let read = Outcome::read(&mut &written[..], z, x).expect("a good outcome");
         assert_eq!(read, outcome);
     }
+}
+
+/// A window of this kind, asked with numbers that all differ and a blob of this length.
+fn window(kind: Kind, blob: usize) -> Question {
+    Question {
+        kind,
+        lent: plain(),
+        numbers: [11, 22, 33, u64::MAX],
+        blob: vec![0xB0; blob],
+    }
+}
+
+fn question_bytes(question: &Question) -> Vec<u8> {
+    let mut bytes = Vec::new();
+    question.write(&mut bytes);
+    bytes
+}
+
+#[test]
+fn questions_of_every_kind_come_back_as_they_were() {
+    let mut stream = Vec::new();
+    let mut asked = Vec::new();
+    for number in 0..300 {
+        asked.push(Question::from(generate::case(5, number)));
+        for kind in Kind::WINDOWS {
+            asked.push(window(kind, number as usize * 7));
+        }
+    }
+    for question in &asked {
+        let before = stream.len();
+        question.write(&mut stream);
+        assert_eq!(stream.len() - before, question.size());
+    }
+    let mut stream = &stream[..];
+    for question in &asked {
+        let read = Question::read(&mut stream).expect("a good case");
+        assert_eq!(read.as_ref(), Some(question));
+        let reply = question.reply();
+        let mut written = Vec::new();
+        reply.write(&mut written);
+        let read = Reply::read(&mut &written[..], question).expect("a good outcome");
+        assert_eq!(read, reply);
+    }
+    assert_eq!(Question::read(&mut stream).expect("its end"), None);
+}
+
+#[test]
+fn the_layout_of_a_window_is_the_documents() {
+    let bytes = question_bytes(&window(Kind::LaneWindow, 5));
+    let step = question_bytes(&plain().into());
+    assert_eq!(bytes[8..12], [7, 3, 0, 0]);
+    assert_eq!(bytes[12..96], step[12..96]);
+    for (number, value) in [11, 22, 33, u64::MAX, 5_u64].into_iter().enumerate() {
+        let at = 96 + 8 * number;
+        assert_eq!(bytes[at..at + 8], value.to_le_bytes());
+    }
+    assert_eq!(bytes[136..], [&step[96..], &[0xB0; 5]].concat());
+    let mut outcome = Vec::new();
+    let mut inside = window(Kind::AddressWindow, 0);
+    inside.numbers[0] = common::FLASH + 3;
+    inside.reply().write(&mut outcome);
+    let numbers = [3, 0x7FFD, 0, 0_u64].map(u64::to_le_bytes);
+    assert_eq!(outcome, [&[1], numbers.as_flattened()].concat());
+}
+
+#[test]
+fn a_window_is_no_step_where_only_steps_are_read() {
+    let bytes = question_bytes(&window(Kind::AddressWindow, 0));
+    let why = Case::read(&mut &bytes[..]).expect_err("no step");
+    assert!(why.to_string().contains("kind 2"), "{why}");
 }
 
 #[test]
@@ -95,8 +166,12 @@ fn bad_input_names_the_case_and_keeps_what_was_answered() {
         assert!(got.2.contains(why), "{} says not {why}", got.2);
     };
     expect(spoiled(3, b"2"), "magic");
-    expect(spoiled(8, &[0x0F]), "flags");
-    expect(spoiled(11, &[0x80]), "flags");
+    for bit in (3..8).chain(16..32) {
+        expect(spoiled(8, &(1_u32 << bit).to_le_bytes()), "flags");
+    }
+    for kind in (0..=255_u8).filter(|kind| ![0, 2, 3].contains(kind)) {
+        expect(spoiled(9, &[kind]), &format!("kind {kind} "));
+    }
     expect(spoiled(12, &[5]), "level 5");
     expect(spoiled(12, &[15]), "level 15");
     let limits = [
@@ -114,6 +189,56 @@ fn bad_input_names_the_case_and_keeps_what_was_answered() {
         expect(spoiled(at, &u64::MAX.to_le_bytes()), what);
         // A length at the limit is read, and the stream ends inside the case
         expect(spoiled(at, &limit.to_le_bytes()), "ends inside");
+    }
+}
+
+#[test]
+fn a_blob_has_its_limit() {
+    let good = window(Kind::AddressWindow, 65_536);
+    assert_eq!(
+        ended(&question_bytes(&good).repeat(2)),
+        (66, 2, String::new())
+    );
+    for length in [65_537, u64::MAX] {
+        let mut bytes = question_bytes(&good);
+        bytes[128..136].copy_from_slice(&length.to_le_bytes());
+        let (kept, number, why) = ended(&bytes);
+        assert_eq!((kept, number), (0, 0));
+        assert!(why.contains("blob_len"), "{why}");
+    }
+}
+
+#[test]
+fn fewer_bytes_than_a_magic_or_a_head_end_inside_whatever_they_are() {
+    let mut bytes = question_bytes(&window(Kind::LaneWindow, 3));
+    bytes[..3].copy_from_slice(b"abc");
+    assert!(ended(&bytes[..3]).2.contains("ends inside"));
+    assert!(ended(&bytes[..4]).2.contains("magic"));
+    bytes[..4].copy_from_slice(b"KKJ1");
+    // Flag bits, a kind, a level and a length that mean nothing, each before the next
+    bytes[40..48].copy_from_slice(&u64::MAX.to_le_bytes());
+    assert!(ended(&bytes[..135]).2.contains("ends inside"));
+    assert!(ended(&bytes[..136]).2.contains("z_len"));
+    bytes[12] = 5;
+    assert!(ended(&bytes[..95]).2.contains("ends inside"));
+    assert!(ended(&bytes[..96]).2.contains("level 5"));
+    bytes[9] = 4;
+    assert!(ended(&bytes[..95]).2.contains("ends inside"));
+    assert!(ended(&bytes[..96]).2.contains("kind 4"));
+    bytes[8] = 8;
+    assert!(ended(&bytes[..95]).2.contains("ends inside"));
+    assert!(ended(&bytes[..96]).2.contains("flags"));
+}
+
+#[test]
+fn a_window_may_end_anywhere() {
+    let good = question_bytes(&window(Kind::LaneWindow, 9));
+    for length in 1..good.len() {
+        if length < 700 || length % 997 == 0 || length > good.len() - 12 {
+            let (kept, number, why) = ended(&[&good[..], &good[..length]].concat());
+            assert_eq!((kept, number), (33, 1));
+            assert!(why.contains("ends inside"), "{length}: {why}");
+        }
     }
 }
 

@@ -11,6 +11,7 @@ use second::machine::{accepted, Area, Bench};
 use second::rules::{Right, Rules};
 use second::sample::{row, rows};
 use second::together::{lies_together, Stretch};
+use second::touched::{pages_read, PageOf};
 
 const SEED: u64 = 11;
 const CASES: u64 = 20_000;
@@ -45,7 +46,7 @@ fn every_family_has_its_answers_often() {
         }
     }
     for family in Family::ALL {
-        for (answer, least) in [(0, 1000), (1, 80), (4, 60), (5, 40), (6, 120), (7, 90)] {
+        for (answer, least) in [(0, 1000), (1, 80), (4, 60), (5, 40), (6, 100), (7, 90)] {
             let had = seen[family as usize][answer];
             assert!(had >= least, "{} {answer}: {had}", family.name());
         }
@@ -119,12 +120,77 @@ fn areas_are_of_every_kind() {
 }
 
 #[test]
+fn areas_have_every_number_of_pages_and_are_read_in_every_page() {
+    let mut lent = [0; 17];
+    let mut read = [[[0; 16]; 2]; 2];
+    for number in 0..CASES {
+        let case = case(SEED, number);
+        let bench = &case.bench;
+        let Ok(load) = decode(&Right, case.word, bench.f64mm) else {
+            continue;
+        };
+        if !accepted(&Right, bench) {
+            continue;
+        }
+        for area in [&bench.flash, &bench.ram] {
+            lent[area.pages_begun() as usize] += 1;
+        }
+        let report = case.outcome().report;
+        let pages = match report.answer {
+            0 => pages_read(&case, &load),
+            7 => PageOf::address(bench, report.address).into_iter().collect(),
+            _ => continue,
+        };
+        let ran = usize::from(report.answer == 0);
+        for PageOf { ram, page } in pages {
+            read[ran][usize::from(ram)][page] += 1;
+        }
+    }
+    assert!(lent.iter().all(|had| *had >= 50), "{lent:?}");
+    let [denied, ran] = read;
+    assert!(ran.iter().flatten().all(|had| *had >= 8), "{ran:?}");
+    assert!(denied.iter().flatten().all(|had| *had >= 3), "{denied:?}");
+}
+
+#[test]
+fn numbers_are_at_their_ends_now_and_then() {
+    let ends = [0, 1, u64::MAX, 1 << 63, (1 << 63) - 1];
+    let mut scalars = [[0; 5]; 33];
+    let mut starts = [0; 2];
+    let (mut imm6, mut imm4) = ([0; 64], [0; 16]);
+    for number in 0..CASES {
+        let case = case(SEED, number);
+        for (scalar, had) in case.bench.x.iter().zip(&mut scalars) {
+            for (end, had) in ends.iter().zip(had) {
+                *had += u64::from(scalar == end);
+            }
+        }
+        for area in [&case.bench.flash, &case.bench.ram] {
+            starts[0] += u64::from(area.start == 0);
+            starts[1] += u64::from(area.start == 0_u64.wrapping_sub(4096));
+        }
+        match Family::of(case.word) {
+            Some(Family::Ld1rElement) => imm6[(case.word >> 16 & 63) as usize] += 1,
+            Some(Family::Ld1Immediate) => imm4[(case.word >> 16 & 15) as usize] += 1,
+            _ => {}
+        }
+    }
+    assert!(
+        scalars.iter().flatten().all(|had| *had >= 50),
+        "{scalars:?}"
+    );
+    assert!(starts.iter().all(|had| *had >= 200), "{starts:?}");
+    assert!(imm6[0] >= 100 && imm6[63] >= 100, "{imm6:?}");
+    assert!(imm4[7] >= 150 && imm4[8] >= 150, "{imm4:?}");
+}
+
+#[test]
 fn cases_stay_small() {
     let sizes: Vec<usize> = (0..CASES).map(|number| case(SEED, number).size()).collect();
     let mean = sizes.iter().sum::<usize>() / sizes.len();
     assert!((8_000..20_000).contains(&mean), "{mean}");
     let large = sizes.iter().filter(|size| **size > 60_000).count();
-    assert!(large < sizes.len() / 100, "{large}");
+    assert!(large < sizes.len() / 25, "{large}");
 }
 
 /// The cases that lie together, each with its load.

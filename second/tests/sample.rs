@@ -9,11 +9,14 @@ use common::both;
 use second::cases::Case;
 use second::decode::Family;
 use second::edges::{edges_of, Edge};
-use second::machine::Answer;
-use second::sample::{all_cells, answers, row, rows, sample, Cell, Sample, CASES, EACH};
-use second::sharp::sharp;
+use second::machine::{Answer, Area};
+use second::questions::{Kind, Question, Reply};
+use second::sample::{
+    all_cells, all_window_cells, answers, row, rows, sample, Cell, Sample, CASES, EACH,
+};
+use second::sharp::{sharp, sharp_windows};
 use second::together::{lies_together, Stretch};
-use second::wrong::{Variant, VARIANTS};
+use second::wrong::{Variant, WindowVariant, VARIANTS, WINDOW_VARIANTS};
 
 fn had(sample: &Sample, wanted: Cell) -> usize {
     let mut cells = sample.cells.iter();
@@ -34,8 +37,14 @@ fn a_sample_covers_every_cell_and_stays_small() {
                 assert!(had(sample, Cell::Pair(family, answer)) >= EACH);
             }
         }
+        let windows: Vec<_> = (sample.window_cells.iter())
+            .filter(|(_, had)| *had > 0)
+            .map(|(cell, _)| *cell)
+            .collect();
+        assert_eq!(windows, all_window_cells());
         assert!((CASES..CASES + 50).contains(&sample.numbers.len()));
-        assert!(sample.cases.len() + sample.outcomes.len() < 6_000_000);
+        // With the demos behind it, both files together stay under 8 MB
+        assert!(sample.cases.len() + sample.outcomes.len() < 7_900_000);
     }
 }
 
@@ -59,22 +68,96 @@ fn sample_1() -> &'static Sample {
     SAMPLE.get_or_init(|| sample(1).expect("enough cases"))
 }
 
-/// The cases of a sample, as they stand in its file.
-fn cases_of(sample: &Sample) -> Vec<Case> {
+/// The questions of a sample, as they stand in its file.
+fn questions_of(sample: &Sample) -> Vec<Question> {
     let mut stream = &sample.cases[..];
-    std::iter::from_fn(|| Case::read(&mut stream).expect("a good case")).collect()
+    std::iter::from_fn(|| Question::read(&mut stream).expect("a good case")).collect()
+}
+
+/// The steps among them.
+fn cases_of(sample: &Sample) -> Vec<Case> {
+    let steps = questions_of(sample).into_iter();
+    steps
+        .filter(|question| question.kind == Kind::Step)
+        .map(|question| question.lent)
+        .collect()
 }
 
 #[test]
 fn the_files_hold_the_cases_and_their_outcomes() {
     let sample = sample(3).expect("enough cases");
-    let cases = cases_of(&sample);
+    let questions = questions_of(&sample);
     let mut outcomes = Vec::new();
-    for case in &cases {
-        both(case).write(&mut outcomes);
+    for question in &questions {
+        match question.kind {
+            Kind::Step => Reply::Step(both(&question.lent)),
+            _ => question.reply(),
+        }
+        .write(&mut outcomes);
     }
-    assert_eq!(cases.len(), sample.numbers.len());
+    assert_eq!(questions.len(), sample.numbers.len() + sample.windows.len());
     assert!(outcomes == sample.outcomes);
+}
+
+#[test]
+fn every_page_of_both_areas_is_read_and_denied() {
+    let (mut ran, mut denied) = (BTreeSet::new(), BTreeSet::new());
+    for case in cases_of(sample_1()) {
+        let report = both(&case).report;
+        let areas = [&case.bench.flash, &case.bench.ram];
+        let page = |address: u64| {
+            let mut found = areas.iter().enumerate();
+            found.find_map(|(ram, area)| Some((ram, area.offset_of(address)? / 4096)))
+        };
+        match report.answer {
+            7 => denied.extend(page(report.address)),
+            // A single read that lies together was made in the page of its first byte
+            0 if report.count == 1 && lies_together(&case) => {
+                let stretch = Stretch::of_case(&case).expect("a load");
+                if stretch.length <= 8 {
+                    ran.extend(page(stretch.first));
+                }
+            }
+            _ => {}
+        }
+    }
+    assert_eq!(denied.len(), 32, "{denied:?}");
+    assert!(ran.len() >= 8, "{ran:?}");
+}
+
+/// Whether a sample tells a bench that takes the right of one page from another one.
+fn tells_right_of(cases: &[(Case, second::cases::Outcome)], own: usize, other: usize) -> bool {
+    cases.iter().any(|(case, right)| {
+        let exchange = |area: &Area| {
+            let both = area.rights.len() > own.max(other);
+            both && area.rights[own] & 1 != area.rights[other] & 1
+        };
+        if !exchange(&case.bench.flash) && !exchange(&case.bench.ram) {
+            return false;
+        }
+        let mut wrong = case.clone();
+        for area in [&mut wrong.bench.flash, &mut wrong.bench.ram] {
+            if area.rights.len() > own.max(other) {
+                area.rights[own] = area.rights[other];
+            }
+        }
+        wrong.outcome() != *right
+    })
+}
+
+#[test]
+fn no_page_can_take_its_right_from_another() {
+    let cases: Vec<_> = (cases_of(sample_1()).into_iter())
+        .map(|case| {
+            let outcome = case.outcome();
+            (case, outcome)
+        })
+        .collect();
+    for own in 0..16 {
+        for other in (0..16).filter(|other| *other != own) {
+            assert!(tells_right_of(&cases, own, other), "{own} from {other}");
+        }
+    }
 }
 
 #[test]
@@ -95,7 +178,10 @@ fn every_family_lies_together_at_all_its_sizes_and_lengths() {
         }
     }
     assert_eq!(together, sample.together);
-    assert!((CASES / 2..CASES * 2 / 3).contains(&together), "{together}");
+    assert!(
+        (CASES * 2 / 5..CASES * 2 / 3).contains(&together),
+        "{together}"
+    );
     assert!(
         (together / 3..together * 2 / 3).contains(&in_ram),
         "{in_ram}"
@@ -143,8 +229,33 @@ fn a_sample_tells_every_wrong_variant_apart() {
 }
 
 #[test]
+fn a_sample_tells_every_wrong_window_apart() {
+    let mut left: Vec<&WindowVariant> = WINDOW_VARIANTS.iter().collect();
+    for question in questions_of(sample_1()) {
+        if question.kind != Kind::Step {
+            let right = question.window();
+            left.retain(|variant| variant.window(&question) == right);
+        }
+    }
+    let names: Vec<&str> = left.iter().map(|variant| variant.name).collect();
+    assert_eq!(names, [""; 0]);
+}
+
+#[test]
+fn every_wrong_window_is_told_apart() {
+    assert!(WINDOW_VARIANTS.len() >= 50);
+    let names: BTreeSet<&str> = WINDOW_VARIANTS.iter().map(|variant| variant.name).collect();
+    assert_eq!(names.len(), WINDOW_VARIANTS.len());
+    for seed in [1, 7] {
+        for told in sharp_windows(seed, 10_000) {
+            assert!(told.by.is_some(), "seed {seed}: {}", told.name);
+        }
+    }
+}
+
+#[test]
 fn every_wrong_variant_is_told_apart() {
-    assert!(VARIANTS.len() >= 100);
+    assert!(VARIANTS.len() >= 112);
     let names: BTreeSet<&str> = VARIANTS.iter().map(|variant| variant.name).collect();
     assert_eq!(names.len(), VARIANTS.len());
     for seed in [1, 7] {

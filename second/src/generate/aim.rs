@@ -21,7 +21,7 @@ pub fn distance(load: &Load, bench: &Bench, e: u64) -> u64 {
     lead.wrapping_add(if single { 0 } else { e * mbytes })
 }
 
-/// An index: small, negative, such that scaling it wraps, or anything.
+/// An index: small, negative, such that scaling it wraps, at an end of all numbers, or anything.
 pub fn index(rng: &mut Rng, load: &Load, bench: &mut Bench) {
     let indexed = load.family.is_scalar() || load.family == Family::Ld1rPostIndex;
     if !indexed || load.m >= SP {
@@ -33,7 +33,7 @@ pub fn index(rng: &mut Rng, load: &Load, bench: &mut Bench) {
         1 => small.wrapping_neg(),
         2 => (rng.below(8) << 61).wrapping_add(small),
         3 => (rng.below(16) << 60).wrapping_sub(small),
-        4 => 0,
+        4 => rng.pick([0, 0, 0, 1, u64::MAX, 1 << 63, (1 << 63) - 1]),
         _ => rng.next_u64(),
     };
 }

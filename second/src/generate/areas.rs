@@ -8,10 +8,13 @@ const PAGES: u64 = 1 << 52;
 /// The longest area that is accepted.
 pub const LIMIT: u64 = 65_536;
 
-/// Flash and RAM, in either order of addresses.
+/// Flash and RAM, in either order of addresses; now and then both are empty.
 pub fn two(rng: &mut Rng) -> (Area, Area) {
-    let mut first = contents(rng);
-    let mut second = contents(rng);
+    let (mut first, mut second) = if rng.percent(3) {
+        (Area::default(), Area::default())
+    } else {
+        (contents(rng), contents(rng))
+    };
     let gap = gap(rng);
     arrange(rng, &mut first, &mut second, gap);
     rng.in_either_order(first, second)
@@ -79,10 +82,14 @@ pub fn right(rng: &mut Rng, readable: bool) -> u8 {
     rng.next_u64() as u8 & 0xFE | u8::from(readable)
 }
 
-/// Mostly up to three pages, whole pages often, the limit itself rarely.
+/// Mostly up to three pages, whole pages often; in a few of a hundred up to sixteen, and the limit itself.
 fn length(rng: &mut Rng) -> u64 {
     if rng.per_mille(5) {
         return LIMIT - rng.below(2);
+    }
+    if rng.percent(3) {
+        let part = rng.below(PAGE);
+        return (4 + rng.below(13)) * PAGE - rng.pick([0, part]);
     }
     match rng.below(20) {
         0 | 1 => 0,
@@ -96,16 +103,17 @@ fn length(rng: &mut Rng) -> u64 {
     }
 }
 
-/// Rights with junk above bit 0: all readable, some denied, one denied, all denied.
+/// Rights with junk above bit 0: all readable, some denied, one denied, all denied, all but one denied.
 fn rights(rng: &mut Rng, pages: u64) -> Vec<u8> {
-    let manner = rng.below(20);
+    let manner = rng.below(21);
     let one = rng.below(pages);
     let manner_of = |page| {
         let readable = match manner {
             0..=8 => true,
             9..=14 => rng.percent(60),
             15..=18 => page != one,
-            _ => false,
+            19 => false,
+            _ => page == one,
         };
         right(rng, readable)
     };

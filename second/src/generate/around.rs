@@ -49,6 +49,15 @@ const PLACES: [Place; 20] = [
     Place::Anywhere,
 ];
 
+/// Where it lies in an area of all sixteen pages: mostly on two of them.
+const SIXTEEN_PLACES: [Place; 5] = [
+    Place::AcrossPages,
+    Place::AcrossPages,
+    Place::AcrossPages,
+    Place::PageStart,
+    Place::PageEnd,
+];
+
 /// Which pages of the area may be read.
 #[derive(Clone, Copy)]
 enum Manner {
@@ -62,6 +71,8 @@ enum Manner {
     /// All but the first of those touched, or the last.
     NotFirst,
     NotLast,
+    /// All but those touched.
+    NotTouched,
 }
 
 const MANNERS: [Manner; 10] = [
@@ -77,14 +88,37 @@ const MANNERS: [Manner; 10] = [
     Manner::NotBehind,
 ];
 
+/// In so many of a hundred areas the stretch may lie in any of sixteen pages.
+const FAR: u64 = 8;
+/// And in so many all sixteen are lent, with rights that only those touched have, or only they have not.
+const SIXTEEN: u64 = 2;
+
+/// How large an area is laid around a stretch.
+#[derive(Clone, Copy, PartialEq, Eq)]
+enum Size {
+    /// Some three pages at most.
+    Small,
+    /// As many as it takes to have the stretch in some page.
+    Far,
+    Sixteen,
+}
+
 /// Gives the bench two areas, one of them around the stretch; where the stretch begins. In one of six
 /// cases something is amiss: a page that it touches is denied, or it slips over the edge it was laid at.
 pub fn areas(rng: &mut Rng, load: &Load, bench: &mut Bench) -> u64 {
     let length = Stretch::of(load, bench).length;
-    let place = rng.pick(PLACES);
+    let size = match rng.below(100) {
+        part if part < SIXTEEN => Size::Sixteen,
+        part if part < SIXTEEN + FAR => Size::Far,
+        _ => Size::Small,
+    };
+    let place = match size {
+        Size::Sixteen => rng.pick(SIXTEEN_PLACES),
+        _ => rng.pick(PLACES),
+    };
     let amiss = rng.below(6) == 0;
-    let offset = before(rng, place, length);
-    let mut home = home(rng, place, amiss, offset..=offset + length - 1);
+    let offset = before(rng, place, size, length);
+    let mut home = home(rng, (place, size), amiss, offset..=offset + length - 1);
     let mut other = other(rng, place);
     if place == Place::AcrossAreas {
         areas::arrange(rng, &mut home, &mut other, 0);
@@ -103,13 +137,18 @@ pub fn areas(rng: &mut Rng, load: &Load, bench: &mut Bench) -> u64 {
 }
 
 /// How many bytes of the area lie before the stretch.
-fn before(rng: &mut Rng, place: Place, length: u64) -> u64 {
-    let border = rng.pick([1, 1, 1, 2]) * PAGE;
+fn before(rng: &mut Rng, place: Place, size: Size, length: u64) -> u64 {
+    let border = match size {
+        Size::Small => rng.pick([1, 1, 1, 2]) * PAGE,
+        _ => (1 + rng.below(15)) * PAGE,
+    };
     match place {
         Place::AreaStart | Place::WholeArea => 0,
         Place::PageStart => border,
         Place::PageEnd => border - length,
+        // A single byte lies on one page
         Place::AcrossPages | Place::AcrossAreas => border - 1 - rng.below(length - 1),
+        Place::Anywhere if size == Size::Far => rng.below(areas::LIMIT - length),
         Place::AreaEnd if rng.per_mille(15) => areas::LIMIT - length,
         Place::AreaEnd => match rng.below(6) {
             0 | 1 => rng.below(130),
@@ -125,14 +164,25 @@ fn before(rng: &mut Rng, place: Place, length: u64) -> u64 {
 }
 
 /// The area around a stretch, of which the first and the last byte are given as they lie in it.
-fn home(rng: &mut Rng, place: Place, amiss: bool, stretch: RangeInclusive<u64>) -> Area {
+fn home(
+    rng: &mut Rng,
+    (place, size): (Place, Size),
+    amiss: bool,
+    stretch: RangeInclusive<u64>,
+) -> Area {
     let end = stretch.end() + 1;
     let length = match place {
+        // The sixteenth page is begun, mostly not much more
+        _ if size == Size::Sixteen => end.max(15 * PAGE + rng.pick([1, 9, 100, PAGE])),
         Place::AreaEnd | Place::WholeArea => end,
         Place::AcrossAreas => end / PAGE * PAGE,
-        _ => end + behind(rng, end),
+        _ => (end + behind(rng, end)).min(areas::LIMIT),
     };
     let manner = match place {
+        _ if size == Size::Sixteen => {
+            rng.pick([Manner::Touched, Manner::Touched, Manner::NotTouched])
+        }
+        _ if size == Size::Far && rng.percent(40) => Manner::NotTouched,
         Place::AcrossPages if amiss => rng.pick([Manner::NotFirst, Manner::NotLast]),
         // Over the edge the stretch is denied
         Place::PageStart | Place::PageEnd if amiss => Manner::Touched,
@@ -148,9 +198,11 @@ fn home(rng: &mut Rng, place: Place, amiss: bool, stretch: RangeInclusive<u64>) 
 
 /// How many bytes of the area lie behind the stretch, which ends there in the area.
 fn behind(rng: &mut Rng, end: u64) -> u64 {
-    match rng.below(8) {
-        0..=4 => 1 + rng.below(64),
-        5 | 6 => PAGE - end % PAGE,
+    match rng.below(80) {
+        0..=49 => 1 + rng.below(64),
+        50..=69 => PAGE - end % PAGE,
+        // Any number of pages that are not touched
+        70 => 1 + rng.below(areas::LIMIT - end),
         _ => 1 + rng.below(PAGE),
     }
 }
@@ -166,6 +218,7 @@ fn rights(rng: &mut Rng, manner: Manner, touched: RangeInclusive<u64>, pages: u6
             Manner::NotBehind => page != last + 1,
             Manner::NotFirst => page != first,
             Manner::NotLast => page != last,
+            Manner::NotTouched => !touched.contains(&page),
         };
         areas::right(rng, readable)
     };

@@ -8,9 +8,11 @@ mod around;
 mod predicate;
 mod spoil;
 mod values;
+mod windows;
 mod word;
 
 pub use aim::distance;
+pub use windows::window;
 
 use crate::cases::Case;
 use crate::decode::{decode, Load};
@@ -19,7 +21,7 @@ use crate::rng::Rng;
 use crate::rules::Right;
 
 /// How many of a hundred loads have an area laid around their elements.
-const AROUND: u64 = 68;
+const AROUND: u64 = 72;
 
 /// The case with this number of this seed.
 pub fn case(seed: u64, number: u64) -> Case {
@@ -69,7 +71,7 @@ fn files(rng: &mut Rng, vl: u64) -> Bench {
         vl,
         z: values::old(rng, (VECTORS * vl / 8) as usize),
         p: rng.bytes((PREDICATES * vl / 64) as usize),
-        x: (0..SCALARS).map(|_| rng.next_u64()).collect(),
+        x: (0..SCALARS).map(|_| values::scalar(rng)).collect(),
         flash: Area::default(),
         ram: Area::default(),
     }

@@ -1,4 +1,4 @@
-//! What the memory and the vector file hold.
+//! What the memory, the vector file and the scalars hold.
 
 use crate::decode::Load;
 use crate::machine::Bench;
@@ -39,4 +39,13 @@ pub fn old(rng: &mut Rng, length: usize) -> Vec<u8> {
         *byte = (*byte).max(1);
     }
     bytes
+}
+
+/// Any number; now and then one at an end of the unsigned or of the signed numbers.
+pub fn scalar(rng: &mut Rng) -> u64 {
+    if rng.percent(6) {
+        rng.pick([0, 1, u64::MAX, 1 << 63, (1 << 63) - 1])
+    } else {
+        rng.next_u64()
+    }
 }

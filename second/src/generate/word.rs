@@ -3,8 +3,9 @@
 use crate::decode::Family;
 use crate::rng::Rng;
 
-/// The lowest bit of the fields Rm and Rn, and the bits L and S of LD1R.
+/// The lowest bit of the fields Rm, imm6 or imm4, and Rn, and the bits L and S of LD1R.
 const RM: u32 = 16;
+const IMM: u32 = 16;
 const RN: u32 = 5;
 const L: u32 = 1 << 22;
 const S: u32 = 1 << 12;
@@ -37,8 +38,19 @@ pub fn of_a_family(rng: &mut Rng) -> u32 {
     }
     if family.is_scalar() || family == Family::Ld1rPostIndex {
         index_register(rng, family, &mut word);
+    } else if !family.is_ld1r() && rng.percent(12) {
+        immediate_at_an_end(rng, family, &mut word);
     }
     word
+}
+
+/// imm6 0 or 63, imm4 -8 or 7.
+fn immediate_at_an_end(rng: &mut Rng, family: Family, word: &mut u32) {
+    let (field, ends) = match family {
+        Family::Ld1rElement => (63, [0, 63]),
+        _ => (15, [8, 7]),
+    };
+    *word = *word & !(field << IMM) | rng.pick(ends) << IMM;
 }
 
 /// Rm = 31 (undefined, or the post-index by the size), Rm = Rn, or any other.

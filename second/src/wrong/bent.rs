@@ -62,6 +62,11 @@ bent! {
         Right.area_limit() - 1
     }
 
+    EightPages:
+    fn area_limit(&self) -> u64 {
+        Right.area_limit() / 2
+    }
+
     RightsMore:
     fn rights_fit(&self, rights: u64, pages_begun: u64) -> bool {
         rights == pages_begun || rights == pages_begun + 1

@@ -1,12 +1,16 @@
 //! Deliberately wrong interpreters. A set of cases is worth something if it tells each of them
 //! from the right one. A variant bends one small rule (`bent.rs`), or does something of its own
 //! with the right interpreter's help (`instead.rs`), for example with the copies of a block
-//! (`copies.rs`) or where all elements lie together (`stretch.rs`).
+//! (`copies.rs`), with the rights of pages (`pages.rs`) or where all elements lie together (`stretch.rs`). `windows.rs` has the wrong windows.
 
 mod bent;
 mod copies;
 mod instead;
+mod pages;
 mod stretch;
+mod windows;
+
+pub use windows::{WindowVariant, WINDOW_VARIANTS};
 
 use crate::cases::{Case, Outcome};
 use crate::rules::Rules;
@@ -146,6 +150,24 @@ pub const VARIANTS: &[Variant] = &[
         instead::denied_inactive,
     ),
     instead("lanes looked at downward", instead::downward),
+    instead("a page's right by its number modulo 8", pages::modulo_8),
+    instead("the right of page 0 for every page", pages::page_0),
+    instead("the right of the page behind", pages::page_behind),
+    instead("the right of the page before", pages::page_before),
+    instead("rights counted from the last page", pages::turned_around),
+    instead("the last page's right not asked", pages::last_page_free),
+    instead("no right asked from page 8 on", pages::free_from_8_on),
+    instead("no right had from page 8 on", pages::denied_from_8_on),
+    instead(
+        "the sixteenth page's right not asked",
+        pages::sixteenth_free,
+    ),
+    instead(
+        "nothing found behind eight pages",
+        pages::eight_pages_at_most,
+    ),
+    bent("areas over eight pages refused", &bent::EightPages),
+    instead("the rights of the other area", pages::of_the_other_area),
     // What is answered
     instead("6 and 7 exchanged", instead::exchanged),
     instead(

@@ -1,30 +1,23 @@
-//! A sample of the generated cases that covers what is to be covered, small enough to be kept.
+//! What the steps of a sample must have.
 
 use crate::cases::{Case, Outcome};
+use crate::coverage::{pairs, pairs_of, Pair};
 use crate::decode::{decode, Family, Load};
 use crate::edges::{edges_of, Edge};
 use crate::generate;
 use crate::machine::{Answer, Refusal, SP};
 use crate::rules::{Right, Rules};
 use crate::together::lies_together;
+use crate::touched::{pages_read, PageOf};
 use crate::wrong::VARIANTS;
 
-/// How many cases a sample has, and how many at least of each cell.
-pub const CASES: usize = 650;
+/// How many cases at least of each cell that is not rare.
 pub const EACH: usize = 3;
-/// How far the stream is searched for the rarest cell.
-const SEARCHED: u64 = 400_000;
-/// Behind this many cases a cell that is still wanted, such as an area at its limit, may be had
-/// from a large case.
-const PATIENCE: u64 = 15_000;
-/// The sizes up to which a case counts as small: both areas together, and the vector file. Where the
-/// file is to be of every length, the areas must be smaller still.
-const SMALL_AREAS: u64 = 8192;
-const SMALL_FILE: usize = 2048;
-const TINY_AREAS: u64 = 1024;
+/// As many pages as an area of 65,536 bytes has.
+const PAGES_AT_MOST: usize = 16;
 
 /// Why a word or a set-up is undefined, as far as the family can have it.
-#[derive(Clone, Copy, Debug, PartialEq, Eq)]
+#[derive(Clone, Copy, Debug, PartialEq, Eq, Hash)]
 pub enum Cause {
     LoadBit,
     SBit,
@@ -34,10 +27,12 @@ pub enum Cause {
 }
 
 /// Something that a sample must have.
-#[derive(Clone, Copy, Debug, PartialEq, Eq)]
+#[derive(Clone, Copy, Debug, PartialEq, Eq, Hash)]
 pub enum Cell {
     /// A family with an answer.
     Pair(Family, Answer),
+    /// Any pair of family, answer, VL and pages lent.
+    Pairwise(Pair),
     /// A family with a cause of answer 3, the only one.
     Undefined(Family, Cause),
     /// A set-up that is refused for this cause alone.
@@ -66,6 +61,14 @@ pub enum Cell {
     Level(u32),
     /// An area of exactly 65,536 bytes, accepted.
     AtLimit,
+    /// A read in this page that ran, or that was denied.
+    PageRan(PageOf),
+    PageDenied(PageOf),
+    /// One that hangs on the right of its own page, which is not that of another page of the area.
+    OwnRight {
+        own: usize,
+        other: usize,
+    },
     /// A case that tells the wrong variant of this number from the right interpreter.
     Tells(usize),
 }
@@ -75,7 +78,8 @@ impl Cell {
     pub fn wanted(self) -> usize {
         match self {
             Cell::AtLimit | Cell::Refused(Refusal::FlashLimit | Refusal::RamLimit) => 1,
-            Cell::Tells(_) | Cell::TogetherAt(..) | Cell::Meets(..) => 1,
+            Cell::Tells(_) | Cell::TogetherAt(..) | Cell::Meets(..) | Cell::Pairwise(_) => 1,
+            Cell::PageRan(_) | Cell::PageDenied(_) | Cell::OwnRight { .. } => 1,
             _ => EACH,
         }
     }
@@ -119,6 +123,8 @@ pub fn all_cells() -> Vec<Cell> {
     cells.extend((1..=16).map(|n| Cell::Length(128 * n)));
     cells.extend(Refusal::ALL.map(Cell::Refused));
     cells.extend((0..VARIANTS.len()).map(Cell::Tells));
+    cells.extend(pairs().into_iter().map(Cell::Pairwise));
+    cells.extend(cells_of_pages());
     for &edge in Edge::MISSED {
         cells.push(Cell::Missed(edge, true));
         // Elements in two areas can all be read
@@ -150,6 +156,20 @@ pub fn all_cells() -> Vec<Cell> {
     cells
 }
 
+/// What a sample must have of each of the sixteen pages: of both areas, and of either of them.
+fn cells_of_pages() -> Vec<Cell> {
+    let mut cells = Vec::new();
+    for own in 0..PAGES_AT_MOST {
+        for ram in [false, true] {
+            let page = PageOf { ram, page: own };
+            cells.extend([Cell::PageRan(page), Cell::PageDenied(page)]);
+        }
+        let others = (0..PAGES_AT_MOST).filter(|other| *other != own);
+        cells.extend(others.map(|other| Cell::OwnRight { own, other }));
+    }
+    cells
+}
+
 /// What a sample must have of a family's elements that lie together, or nearly so.
 fn cells_together(family: Family) -> Vec<Cell> {
     let shortest = if family.is_ld1ro() { 2 } else { 1 };
@@ -164,6 +184,8 @@ pub fn cells_of(case: &Case, outcome: &Outcome) -> Vec<Cell> {
     let bench = &case.bench;
     let answer = Answer::ALL[usize::from(outcome.report.answer & 7)];
     let mut cells = vec![Cell::Level(case.level)];
+    let pairs = pairs_of(case, outcome.report.answer);
+    cells.extend(pairs.into_iter().map(Cell::Pairwise));
     if answer == Answer::SetUp {
         let mut causes = Refusal::ALL
             .into_iter()
@@ -206,6 +228,33 @@ fn cells_of_a_read(case: &Case, outcome: &Outcome, answer: Answer) -> Vec<Cell> 
     }
     if answer == Answer::Ran {
         cells.extend(cells_of_a_run(case, &load, count));
+    }
+    cells.extend(cells_of_rights(case, outcome, answer, &load));
+    cells
+}
+
+/// The cells of the pages whose rights decided: those read, or the one that was denied.
+fn cells_of_rights(case: &Case, outcome: &Outcome, answer: Answer, load: &Load) -> Vec<Cell> {
+    let bench = &case.bench;
+    let (pages, ran) = match answer {
+        Answer::Ran => (pages_read(case, load), true),
+        Answer::Denied => {
+            let page = PageOf::address(bench, outcome.report.address);
+            (page.into_iter().collect(), false)
+        }
+        _ => return Vec::new(),
+    };
+    let mut cells = Vec::new();
+    for page in pages {
+        cells.push(if ran {
+            Cell::PageRan(page)
+        } else {
+            Cell::PageDenied(page)
+        });
+        let own = page.page;
+        let others = page.rights(bench).into_iter().enumerate();
+        let other = others.filter(|(_, readable)| *readable != ran);
+        cells.extend(other.map(|(other, _)| Cell::OwnRight { own, other }));
     }
     cells
 }
@@ -259,84 +308,4 @@ fn only_cause(case: &Case, family: Family) -> Option<Cause> {
         (Some(cause), None) => Some(*cause),
         _ => None,
     }
-}
-
-/// A chosen sample: the bytes of its two files, and how often each cell occurs.
-pub struct Sample {
-    pub numbers: Vec<u64>,
-    /// How many of its cases lie together.
-    pub together: usize,
-    pub cases: Vec<u8>,
-    pub outcomes: Vec<u8>,
-    pub cells: Vec<(Cell, usize)>,
-}
-
-impl Sample {
-    fn missing(&self) -> Option<Cell> {
-        let short = |(cell, had): &&(Cell, usize)| *had < cell.wanted();
-        self.cells.iter().find(short).map(|(cell, _)| *cell)
-    }
-
-    /// Whether the case has a cell of which there are not enough yet, and is small enough for it.
-    fn wants(&self, number: u64, case: &Case, cells: &[Cell]) -> bool {
-        let areas = case.bench.flash.len() + case.bench.ram.len();
-        let small = areas <= SMALL_AREAS && case.bench.z.len() <= SMALL_FILE;
-        self.cells.iter().any(|(cell, had)| {
-            let fits = match cell {
-                Cell::Length(_) | Cell::TogetherAt(..) => areas <= TINY_AREAS,
-                _ => small || number >= PATIENCE,
-            };
-            *had < cell.wanted() && fits && cells.contains(cell)
-        })
-    }
-
-    /// The variants that no chosen case told apart yet, and this one does.
-    fn newly_told(&self, case: &Case, outcome: &Outcome) -> Vec<Cell> {
-        let told = |(cell, had): &(Cell, usize)| match cell {
-            Cell::Tells(number) if *had == 0 => VARIANTS[*number].outcome(case) != *outcome,
-            _ => false,
-        };
-        let cells = self.cells.iter().filter(|cell| told(cell));
-        cells.map(|(cell, _)| *cell).collect()
-    }
-
-    fn take(&mut self, number: u64, case: &Case, outcome: &Outcome, cells: &[Cell]) {
-        self.numbers.push(number);
-        self.together += usize::from(lies_together(case));
-        case.write(&mut self.cases);
-        outcome.write(&mut self.outcomes);
-        for (cell, had) in &mut self.cells {
-            *had += usize::from(cells.contains(cell));
-        }
-    }
-}
-
-/// Chooses a sample out of the stream of a seed: whatever brings a cell that is still wanted,
-/// and then small cases that ran or faulted, until there are enough.
-pub fn sample(seed: u64) -> Result<Sample, String> {
-    let mut sample = Sample {
-        numbers: Vec::new(),
-        together: 0,
-        cases: Vec::new(),
-        outcomes: Vec::new(),
-        cells: all_cells().into_iter().map(|cell| (cell, 0)).collect(),
-    };
-    for number in 0..SEARCHED {
-        let complete = sample.missing().is_none();
-        if complete && sample.numbers.len() >= CASES {
-            return Ok(sample);
-        }
-        let case = generate::case(seed, number);
-        let outcome = case.outcome();
-        let mut cells = cells_of(&case, &outcome);
-        cells.extend(sample.newly_told(&case, &outcome));
-        let filler = complete && case.size() < 2 * SMALL_FILE;
-        if filler || sample.wants(number, &case, &cells) {
-            sample.take(number, &case, &outcome, &cells);
-        }
-    }
-    Err(match sample.missing() {
-        Some(cell) => format!("{SEARCHED} cases of seed {seed} have too few of {cell:?}"),
-        None => format!("{SEARCHED} cases of seed {seed} make no {CASES} for a sample"),
-    })
 }
