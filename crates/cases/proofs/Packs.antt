@@ -2,10 +2,10 @@
 use Prim.Native.Nat.{ℕ, _≤_}
 use mathlib.Core.Path.{_≡_, refl, sym, _∙_, ap}
 use mathlib.Core.Bool.{Bool, true, false}
-use mathlib.Core.List.{List, _++_, append-cancel-left}
-use mathlib.Core.Logic.{_↔_, ⊎-elim}
+use mathlib.Core.List.{List, [], _++_, append-cancel-left}
+use mathlib.Core.Logic.{_↔_, _⊎_, ⊎-elim}
 use native.Mathlib.Omega.{arith}
-use lib.Dec.{eqb}
+use lib.Dec.{eqb, lit<, lit≤}
 use lib.ListN.{length, drop, length-append}
 use Rattle.ground.specs.Lists.{EachBelow}
 use Rattle.ground.proofs.Laws.{if-cases}
@@ -122,3 +122,58 @@ pub packed-unique : (q q′ : Asked) → Packable q → Packable q′ → (rest 
 packed-unique q q′ can can′ rest rest′ e =
     let same = sym (read-back q can rest) ∙ ap (λ (s : List ℕ). askedFrom s (headOf s)) e ∙ read-back q′ can′ rest′ in
     (same, append-cancel-left (packed q) rest rest′ (e ∙ ap (λ (u : Asked). packed u ++ rest′) (sym same)))
+
+-- a case that lends nothing, of a kind
+abbrev emptyCase : ℕ → Asked
+emptyCase kind =
+    record {
+      word = 0;
+      simd = false;
+      sve = false;
+      f64mm = false;
+      kind = kind;
+      level = 0;
+      vl = 0;
+      flashStart = 0;
+      ramStart = 0;
+      a0 = 0;
+      a1 = 0;
+      a2 = 0;
+      a3 = 0;
+      z = [];
+      p = [];
+      x = [];
+      flash = [];
+      flashRights = [];
+      ram = [];
+      ramRights = [];
+      blob = [];
+    }
+
+empty-packable : (kind : ℕ) → (kind ≡ 0) ⊎ (kind ≡ 2) ⊎ (kind ≡ 3) → Packable (emptyCase kind)
+empty-packable kind here =
+    record {
+      word = lit< tt;
+      vl = lit< tt;
+      flashStart = lit< tt;
+      ramStart = lit< tt;
+      a0 = lit< tt;
+      a1 = lit< tt;
+      a2 = lit< tt;
+      a3 = lit< tt;
+      z = (lit≤ tt, λ k. lit< tt);
+      p = (lit≤ tt, λ k. lit< tt);
+      x = (lit≤ tt, λ k. lit< tt);
+      flash = (lit≤ tt, λ k. lit< tt);
+      flashRights = (lit≤ tt, λ k. lit< tt);
+      ram = (lit≤ tt, λ k. lit< tt);
+      ramRights = (lit≤ tt, λ k. lit< tt);
+      blob = (lit≤ tt, λ k. lit< tt);
+      level = lit≤ tt;
+      kind = here;
+      bare = λ _. (refl, refl, refl, refl, refl);
+    }
+
+-- Each kind that is here can be packed.
+pub packable-met : (kind : ℕ) → (kind ≡ 0) ⊎ (kind ≡ 2) ⊎ (kind ≡ 3) → (q : Asked) × Packable q × (q .kind ≡ kind)
+packable-met kind here = (emptyCase kind, empty-packable kind here, refl)

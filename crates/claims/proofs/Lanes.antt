@@ -2,7 +2,7 @@
 use Prim.Native.Nat.{_%_, _/_, _<_, _^_, ℕ}
 use Rattle.ground.specs.Lists.{EachBelow, little}
 use Rattle.lanes.specs.Lanes.{ShowPromise, bitsOf}
-use Rattle.lanes.specs.Said.{AsAsked, LaneAnswer, There, laneByte}
+use Rattle.lanes.specs.Said.{AsAsked, LaneAnswer, NoNan, There, laneByte}
 use Rattle.lanes.specs.declared.Kind.{Kind}
 use Rattle.lanes.specs.declared.Shown.{Shown}
 use Rattle.lanes.specs.declared.Shown.the-variants.{NoLane}
@@ -55,3 +55,7 @@ as-asked = Rattle.lanes.proofs.Windows.as-asked
 pub window-answers : (vl : ℕ) (z : List ℕ) (register : ℕ) (kind : Kind) (width lane : ℕ) (r : Shown) (p : ShowPromise vl z register kind width lane r)
     → LaneAnswer vl z register kind width lane r
 window-answers = Rattle.lanes.proofs.Windows.window-answers
+
+-- a float that is shown is no NaN
+pub no-nan : (vl : ℕ) (z : List ℕ) (register : ℕ) (kind : Kind) (width lane : ℕ) (r : Shown) (p : ShowPromise vl z register kind width lane r) → NoNan r
+no-nan = Rattle.lanes.proofs.Windows.no-nan

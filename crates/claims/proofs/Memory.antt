@@ -3,19 +3,22 @@ use Prim.Native.Nat.{_%_, _+_, _-_, _/_, _<_, _^_, _≤_, ℕ}
 use Rattle.ground.specs.Lists.{little}
 use Rattle.ground.specs.Sizes.{bytesOf}
 use Rattle.ground.specs.declared.Size.{Size}
-use Rattle.memory.proofs.Windows.{sliceOf}
+use Rattle.memory.proofs.Looks.{withRight}
+use Rattle.memory.proofs.Windows.{placeInto, sliceOf}
 use Rattle.memory.specs.Addresses.{MovedPromise, PlusPromise, movedOf, plusOf, wrap, wrapℤ}
 use Rattle.memory.specs.Areas.{Area, Areas, AreasAcceptedPromise, areAreasAccepted, areaLimit, pageBytes, shareNone}
 use Rattle.memory.specs.Bytes.{BytePromise, judged, lookOf}
 use Rattle.memory.specs.Elements.{ElementPromise, readingOf}
 use Rattle.memory.specs.Said.{AreaAccepted, AreasAccepted, Both, Holds, OneOf, Right}
 use Rattle.memory.specs.Troubles.{FindsByte, byteFound}
-use Rattle.memory.specs.Windows.{PartOf, WindowPromise}
+use Rattle.memory.specs.Windows.{PartOf, PlacePromise, Shows, WindowPromise}
 use Rattle.memory.specs.declared.Address.{Address}
 use Rattle.memory.specs.declared.Cell.{Cell}
 use Rattle.memory.specs.declared.Cell.the-variants.{Bad, Byte}
 use Rattle.memory.specs.declared.Fault.{Fault}
 use Rattle.memory.specs.declared.Fault.the-variants.{Denied, Nowhere}
+use Rattle.memory.specs.declared.Place.{Place}
+use Rattle.memory.specs.declared.Place.the-variants.{Nowhere}
 use Rattle.memory.specs.declared.Reading.{Reading}
 use Rattle.memory.specs.declared.Reading.the-variants.{Bad, Value}
 use denote.Ref.{RefT}
@@ -25,8 +28,6 @@ use mathlib.Core.Bool.{Bool, false, true}
 use mathlib.Core.List.{List, []}
 use mathlib.Core.Logic.{_↔_, _⊎_}
 use mathlib.Core.Path.{_≡_}
-use Rattle.memory.specs.declared.Cell.the-variants as C
-use Rattle.memory.specs.declared.Reading.the-variants as R
 
 -- document 01's numbers, which definition, statement and code take from one place: "0 to 65,536 bytes each", "4,096-byte page"
 pub numbers-said : (areaLimit ≡ 65536) × (pageBytes ≡ 4096)
@@ -160,3 +161,28 @@ part-empty = Rattle.memory.proofs.Windows.part-empty
 
 pub part-rest : (s p : RefT (List ℕ)) (k : ℕ) → PartOf s p k (length (s .now)) → p .now ≡ drop k (s .now)
 part-rest = Rattle.memory.proofs.Windows.part-rest
+
+-- the right at an address is that of its own page's rights byte, and of no other's
+pub right-own : (r : Area) (a v : ℕ) → (a - r .start) / 4096 < length (r .rights) → Right (withRight r ((a - r .start) / 4096) v) a ↔ (v % 2 ≡ 1)
+right-own = Rattle.memory.proofs.Looks.right-own
+
+pub right-others : (r : Area) (a p v : ℕ) → ((a - r .start) / 4096 ≡ p → ⊥) → Right (withRight r p v) a ↔ Right r a
+right-others = Rattle.memory.proofs.Looks.right-others
+
+pub place-unique : (m : Areas) → (a : ℕ) (x y : Place) → PlacePromise m a x → PlacePromise m a y → x ≡ y
+place-unique = Rattle.memory.proofs.Unique.place-unique
+
+-- the place that the window shows
+pub place-rest : (m : Areas) (a : ℕ) (q : Place) (w : PlacePromise m a q) → AreasAccepted m → {r : Area} (o : OneOf m r) → Holds r a
+    → q ≡ placeInto o (a - r .start)
+place-rest = Rattle.memory.proofs.Windows.place-rest
+
+pub place-none : (m : Areas) (a : ℕ) (q : Place) (w : PlacePromise m a q) → (Holds (m .flash) a → ⊥) → (Holds (m .ram) a → ⊥) → q ≡ Nowhere
+place-none = Rattle.memory.proofs.Windows.place-none
+
+pub place-none-refused : (m : Areas) (a : ℕ) (q : Place) (w : PlacePromise m a q) → (AreasAccepted m → ⊥) → q ≡ Nowhere
+place-none-refused = Rattle.memory.proofs.Windows.place-none-refused
+
+-- .. is that of the part that it hands out
+pub place-shows : (m : Areas) (a : ℕ) (q : Place) (w : PlacePromise m a q) → (flash ram p : RefT (List ℕ)) → WindowPromise m a flash ram p → Shows flash ram q p
+place-shows = Rattle.memory.proofs.Windows.place-shows

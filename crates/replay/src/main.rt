@@ -19,11 +19,11 @@ fn tell(line: Text) {
     }
 }
 
-// Reads into a part of the buffer until it is full or the input ends, and answers how many bytes came.
-fn read_part(stream: &mut [u8], from: usize, to: usize) -> usize {
+// One read into a part of the buffer: how many bytes came, 0 at the end of the input, or less where it failed.
+fn read_some(stream: &mut [u8], from: usize, to: usize) -> isize {
     if to <= stream.len() {
         if from <= to {
-            return io::read_full(STDIN_FILENO, &mut stream[from..to]);
+            return libc::read(STDIN_FILENO, &mut stream[from..to]);
         }
     }
     0
@@ -35,19 +35,23 @@ enum Came {
     Unread,
 }
 
-// Whether standard input cannot be read, where no byte came: at its end there is none either, and a read that failed fails again.
-fn unread() -> bool {
-    let mut probe = [0u8; 1];
-    libc::read(STDIN_FILENO, &mut probe) != 0
-}
-
-// Reads on until so many bytes are there.
+// Reads on until so many bytes are there. A proved loop has to end; each turn brings a byte or ends it, so that these turns are enough.
 fn read_on(stream: &mut [u8], from: usize, to: usize) -> Came {
-    let n = std::num::wrapping_add_usize(from, read_part(stream, from, to));
-    if n < to {
-        if unread() {
+    let mut n = from;
+    let mut turns = to;
+    while turns > 0 {
+        if to <= n {
+            return Came::Bytes(n);
+        }
+        let got = read_some(stream, n, to);
+        if got < 0 {
             return Came::Unread;
         }
+        if got == 0 {
+            return Came::Bytes(n);
+        }
+        n = std::num::wrapping_add_usize(n, io::count(got, stream));
+        turns -= 1;
     }
     Came::Bytes(n)
 }
