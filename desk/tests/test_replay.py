@@ -5,6 +5,7 @@ import os
 import pty
 import resource
 import signal
+import socket
 import subprocess
 import tempfile
 import threading
@@ -111,6 +112,11 @@ class Inputs(Benches):
             self.assert_unread(self.waiting(SMALL * 2 + LOAD[:size]), 2)
             self.assert_unread(self.hung_up(SMALL * 2 + LOAD[:size]), 2)
 
+    def test_a_read_that_fails_once(self) -> None:
+        """Between two cases, in a head and behind it: whoever reads again after such an error finds the end of the stream."""
+        for size in (0, 50, 96, len(LOAD) - 1):
+            self.assert_unread(self.reset(SMALL * 2 + LOAD[:size]), 2)
+
     def waiting(self, data: bytes) -> int:
         """A pipe with these bytes, whose writer may still write: reading on has to wait, and this one does not wait (EAGAIN)."""
         reader, writer = os.pipe()
@@ -128,6 +134,15 @@ class Inputs(Benches):
         os.write(theirs, data)
         os.close(theirs)
         return ours
+
+    def reset(self, data: bytes) -> int:
+        """A socket whose peer wrote these bytes and went away without reading what it was sent (ECONNRESET, told once)."""
+        ours, theirs = socket.socketpair()
+        self.addCleanup(ours.close)
+        ours.sendall(b"unread")
+        theirs.sendall(data)
+        theirs.close()
+        return ours.fileno()
 
     def test_nothing(self) -> None:
         for stdin in ({"input": b""}, {"stdin": subprocess.DEVNULL}):
