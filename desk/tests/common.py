@@ -1,15 +1,23 @@
-"""What the tests of kj share. They step by the second interpreter, which the gate has built by then; the proved program comes last in
-it. Where that is built too, test_demos holds the two to each other."""
+"""What the tests of kj share. What kj shows of a step is tested by the proved program, as a person runs it, and held to the second
+interpreter; how kj reads, writes and refuses is tested by the second interpreter alone. A test that wants a program which is not built
+is skipped; the gate builds both first, and .ci/tests lets none be skipped there."""
 
+import json
 import os
 import subprocess
 import tempfile
 import unittest
 from pathlib import Path
 
+from desk.program import built
+
 ROOT = Path(__file__).resolve().parents[2]
 SECOND = ROOT / "second" / "target" / "release" / "second"
 BY_SECOND = ["--program", f"{SECOND} answer"]
+REPLAY = ROOT / "replay"
+
+# the mark of a test that runs the proved program
+by_replay = unittest.skipUnless(built(), "the proved program is not built: rt check replay")
 
 # a good bench, which a test changes in one place
 GOOD = {
@@ -35,6 +43,13 @@ def kj(*words: str, env: dict[str, str] | None = None, cwd: Path = ROOT) -> subp
     return subprocess.run([str(ROOT / "kj"), *words], capture_output=True, text=True, cwd=cwd, env=os.environ | (env or {}), timeout=60)
 
 
+def answers(cases: bytes, program: list[str] | None = None) -> bytes:
+    """The outcomes of a stream of cases, by the second interpreter unless another program is named."""
+    ran = subprocess.run(program or [str(SECOND), "answer"], input=cases, capture_output=True, timeout=60)
+    assert (ran.returncode, ran.stderr) == (0, b""), ran.stderr
+    return ran.stdout
+
+
 class Benches(unittest.TestCase):
     """A test with a folder of its own to write benches into."""
 
@@ -55,3 +70,23 @@ class Benches(unittest.TestCase):
         self.assertTrue(ran.stderr.startswith("kj: ") and ran.stderr.endswith("\n"), ran.stderr)
         for part in parts:
             self.assertIn(part, ran.stderr)
+
+
+@by_replay
+class Replayed(Benches):
+    """A test that steps by the proved program, through its launcher, with the second interpreter as the other side."""
+
+    def show(self, *words: str) -> str:
+        """What ./kj prints, which but for the line that names the other program is the same by both."""
+        ours, theirs = (kj(*by, *words) for by in ([], BY_SECOND))
+        for ran in (ours, theirs):
+            self.assertEqual((ran.returncode, ran.stderr), (0, ""))
+        self.assertEqual(ours.stdout, theirs.stdout.split("\n", 1)[1])
+        return ours.stdout
+
+    def document(self, *words: str) -> dict:
+        """What ./kj --json prints, which names what it was stepped by and is otherwise the same by both."""
+        ours, theirs = (json.loads(kj("--json", *by, *words).stdout, parse_constant=self.fail) for by in ([], BY_SECOND))
+        self.assertEqual((ours["stepped_by"], theirs["stepped_by"]), ("replay", BY_SECOND[1]))
+        self.assertEqual(ours | {"stepped_by": ""}, theirs | {"stepped_by": ""})
+        return ours

@@ -1,4 +1,4 @@
-"""./kj as a person and as a script use it."""
+"""./kj as a person and as a script use it: where it writes, and what it says of what it cannot do."""
 
 import json
 import os
@@ -30,7 +30,7 @@ def on_a_terminal(words: list[str], env: dict[str, str]) -> str:
     return said.decode()
 
 
-class Showing(Benches):
+class Using(Benches):
     def test_the_answers_have_the_names_of_document_01(self) -> None:
         names = ["ran", "set-up", "outside", "undefined", "switched off", "stack", "no memory", "denied"]
         self.assertEqual([ANSWERS[number][0] for number in range(8)], names)
@@ -38,74 +38,6 @@ class Showing(Benches):
     def test_another_program_is_named_first(self) -> None:
         first = kj(*BY_SECOND, self.write(toml())).stdout.splitlines()[0]
         self.assertEqual(first, f"stepped by {BY_SECOND[1]}, not by the proved program")
-
-    def test_an_answer_of_each_number(self) -> None:
-        """Document 01's table, a bench for each row that a file can lend."""
-        sp = "{ x0 = 0x1000, sp = 8 }"
-        rows = [
-            (0, {}),
-            (1, {"vl": "2176"}),
-            (1, {"ram": "{ start = 0x1001, length = 16 }"}),
-            (1, {"ram": "{ start = 0x1000, length = 65537 }"}),
-            (1, {"ram": "{ start = 0x1000, length = 16, rights = [1, 1] }"}),
-            (1, {"flash": "{ start = 0x1000, length = 1 }"}),
-            (2, {"words": "[0]"}),
-            (3, {"words": "[0xA5FF4000]"}),
-            (3, {"words": "[0xA5A02000]", "switches": "{ f64mm = false }"}),
-            (4, {"switches": "{ sve = false }"}),
-            (5, {"words": "[0xA5E0A3E0]", "scalars": sp}),
-            (6, {"scalars": "{ x0 = 0x1008 }"}),
-            (7, {"ram": "{ start = 0x1000, length = 4096, rights = ['none'] }"}),
-        ]
-        self.assertEqual({number for number, _ in rows}, set(ANSWERS))
-        for number, changed in rows:
-            ran = kj(*BY_SECOND, self.write(toml(**changed)))
-            self.assertEqual((ran.returncode, ran.stderr), (0, ""))
-            self.assertIn(f"answer {number}, {ANSWERS[number][0]}", ran.stdout)
-            self.assertEqual("no register and no scalar changed" in ran.stdout, number != 0, ran.stdout)
-
-    def test_what_is_lent_stands_above(self) -> None:
-        ram = "{ start = 0x1001, length = 8192, rights = ['read', 'none', 0x83] }"
-        ran = kj(*BY_SECOND, self.write(toml(ram=ram, switches="{ simd = false }")))
-        self.assertIn("VL 128, SIMD off, SVE on, F64MM present\nflash 0x0, 0 bytes; rights by page: no page\n", ran.stdout)
-        self.assertIn("ram   0x1001, 8192 bytes; rights by page: read none 0x83\n", ran.stdout)
-
-    def test_predicate_and_index_are_shown(self) -> None:
-        ran = kj(*BY_SECOND, self.write(toml(words="[0xA5E14800]", predicates="{ p2 = { hex = '0180' } }", scalars="{ x0 = 0x1000, x1 = 1 }")))
-        self.assertIn("ld1d {z0.d}, p2/z, [x0, x1, lsl #3]", ran.stdout)
-        self.assertIn("   pred  p2 01 80\n   base  x0 0x1000  unchanged\n   index x1 0x1  unchanged\n", ran.stdout)
-
-    def test_a_fault_names_count_element_and_address(self) -> None:
-        ran = kj(*BY_SECOND, self.write(toml(scalars="{ x0 = 0x1008 }")))
-        self.assertIn("count 1, element 1, address 0x1010", ran.stdout)
-
-    def test_a_base_that_is_written_back(self) -> None:
-        """LD1R post-index by 8, at a place that the scope of work's reading of 4DC0C000 has."""
-        ran = kj(*BY_SECOND, self.write(toml(words="[0x4DDFCC00]", scalars="{ x0 = 0x1008, pc = 0xfffffffffffffffc }")))
-        self.assertIn("ld1r {v0.2d}, [x0], #8\n", ran.stdout)
-        self.assertIn("   base  x0 0x1008 -> 0x1010\n   pc    0xfffffffffffffffc -> 0x0\n", ran.stdout)
-        self.assertIn("z0.d  [0] 0000000000000000 0.0 -> 4000000000000000 2.0\n", ran.stdout)
-
-    def test_lanes_that_are_no_floats(self) -> None:
-        """LD1B into halves: eight lanes in a row, and no float beside them. The bytes of 1.0 are 00 six times, f0, 3f."""
-        ran = kj(*BY_SECOND, self.write(toml(words="[0xA420A000]", predicates="{ p0 = { size = 16, lanes = [0, 6, 7] } }")))
-        self.assertIn("z0.h  [0] 0000 0000 0000 0000 0000 0000 0000 0000 -> 0000 0000 0000 0000 0000 0000 00f0 003f\n", ran.stdout)
-
-    def test_lanes_stand_below_each_other(self) -> None:
-        ran = kj(*BY_SECOND, self.write(toml(vectors="{ z0 = { doubles = [0.1, -12345.678] } }")))
-        arrows = [line.index(" -> ") for line in ran.stdout.splitlines() if " -> " in line and "[" in line]
-        self.assertEqual((len(arrows), len(set(arrows))), (2, 1))
-
-    def test_a_value_that_was_extended_is_no_float(self) -> None:
-        """LD1W into doubles: the lane's 64 bits are no double."""
-        ran = kj(*BY_SECOND, self.write(toml(words="[0xA560A000]", ram="{ start = 0x1000, bytes = { singles = [1, 2] } }")))
-        self.assertIn("z0.d  [0] 0000000000000000 0000000000000000 -> 000000003f800000 0000000040000000\n", ran.stdout)
-
-    def test_each_step_goes_on_from_the_one_before(self) -> None:
-        words = "[0xA5E0A000, 0, 0xA5E0A000]"
-        ran = kj(*BY_SECOND, self.write(toml(words=words, scalars="{ x0 = 0x1000, pc = 0x40 }")))
-        counters = [line.strip() for line in ran.stdout.splitlines() if " pc " in line]
-        self.assertEqual(counters, ["pc    0x40 -> 0x44", "pc    0x44  unchanged", "pc    0x44 -> 0x48"])
 
     def test_floats_by_the_fewest_digits(self) -> None:
         singles = [(0.1, "0.1"), (359.9, "359.9"), (2.0**-149, "1e-45"), (-0.0, "-0.0"), (float("-inf"), "-inf")]
@@ -127,18 +59,6 @@ class Showing(Benches):
         self.assertIn("\x1b[32manswer 0, ran\x1b[0m", painted)
         for env in ({"NO_COLOR": "1", "TERM": "xterm"}, {"NO_COLOR": "", "TERM": "dumb"}):
             self.assertEqual(on_a_terminal([*BY_SECOND, bench], env).replace("\r\n", "\n"), plain)
-
-    def test_json(self) -> None:
-        ran = kj("--json", *BY_SECOND, self.write(toml(words="[0xA5E0A000, 0]", ram="{ start = 0x1000, bytes = { doubles = [1.5, inf] } }")))
-        whole = json.loads(ran.stdout, parse_constant=self.fail)
-        first, second = whole["steps"]
-        self.assertEqual((whole["settings"]["vl"], first["text"], first["answer"], first["count"]), (128, "ld1d {z0.d}, p0/z, [x0]", 0, 2))
-        lanes = first["destination"]["lanes"]
-        self.assertEqual([lane["after_float"] for lane in lanes], [1.5, "inf"])
-        self.assertEqual([lane["after"] for lane in lanes], ["0x3ff8000000000000", "0x7ff0000000000000"])
-        self.assertEqual((first["changed"], first["pc"]["after"]), (["z0", "pc"], "0x4"))
-        self.assertEqual((second["text"], second["answer_name"], second["changed"]), (None, "outside", []))
-        self.assertEqual((first["predicate"]["bytes"], whole["ram"]), ("0101", {"start": "0x1000", "length": 16, "rights": "01"}))
 
     def test_letters_that_standard_output_does_not_have(self) -> None:
         bench = self.write(toml(title="'nørth → 0°'"))
@@ -192,11 +112,6 @@ class Showing(Benches):
         self.assertEqual((ran.returncode, ran.stderr), (0, ""))
         for part in ("./kj demo/crossing-north.toml", "words =", "--json", "exit status"):
             self.assertIn(part, ran.stdout)
-
-    def test_the_bench_of_the_help_runs(self) -> None:
-        text = kj("--help").stdout.split("have to be there.\n")[1].split("A piece is")[0]
-        ran = kj(*BY_SECOND, self.write(text))
-        self.assertEqual((ran.returncode, ran.stderr), (0, ""), ran.stdout)
 
 
 class BadUse(Benches):

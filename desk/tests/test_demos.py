@@ -1,11 +1,9 @@
-"""The demos show what they are for, and README.md shows what they print."""
+"""The demos show what they are for, by the proved program and by the second interpreter alike, and README.md shows what they print."""
 
-import json
 import struct
 import unittest
 
-from desk.program import built
-from desk.tests.common import BY_SECOND, ROOT, Benches, kj
+from desk.tests.common import REPLAY, ROOT, Replayed, answers, kj
 
 DEMOS = ("crossing-north", "page-end", "left-over")
 # their cases one behind the other, which stand in the input of the proved program too, behind the sample
@@ -16,9 +14,9 @@ def bits(value: float) -> str:
     return "0x" + struct.pack(">d", value).hex()
 
 
-class Demos(Benches):
+class Demos(Replayed):
     def steps(self, name: str) -> list[dict]:
-        return json.loads(kj("--json", *BY_SECOND, f"demo/{name}.toml").stdout)["steps"]
+        return self.document(f"demo/{name}.toml")["steps"]
 
     def after(self, step: dict) -> list[str]:
         return [lane["after"] for lane in step["destination"]["lanes"]]
@@ -58,24 +56,22 @@ class Demos(Benches):
                 if text and not text.startswith("    "):
                     break
                 block.append(text[4:])
-            said = kj(*BY_SECOND, *line.split()[2:]).stdout.splitlines()[1:]
-            self.assertEqual("\n".join(block).strip(), "\n".join(said).strip())
+            self.assertEqual("\n".join(block).strip(), self.show(*line.split()[2:]).strip())
             shown += 1
         self.assertGreaterEqual(shown, 1)
+
+    def test_every_demo_is_shown_alike(self) -> None:
+        for name in DEMOS:
+            self.assertIn("answer 0, ran", self.show(f"demo/{name}.toml"))
 
     def test_the_cases_are_those_that_the_gate_has_the_proved_program_step(self) -> None:
         packed = b""
         for name in DEMOS:
-            kj(*BY_SECOND, "--cases", str(self.folder / name), f"demo/{name}.toml")
+            kj("--cases", str(self.folder / name), f"demo/{name}.toml")
             packed += (self.folder / name).read_bytes()
         self.assertEqual(packed, CASES.read_bytes())
         self.assertTrue((ROOT / "crates" / "replay" / "stdin").read_bytes().endswith(packed))
-
-    @unittest.skipUnless(built(), "the proved program is not built")
-    def test_the_proved_program_steps_them_alike(self) -> None:
-        for name in DEMOS:
-            ours, theirs = (kj(*words, f"demo/{name}.toml") for words in ([], BY_SECOND))
-            self.assertEqual(ours.stdout, theirs.stdout.split("\n", 1)[1])
+        self.assertEqual(answers(packed, [str(REPLAY)]), answers(packed))
 
 
 if __name__ == "__main__":
