@@ -4,8 +4,8 @@ use Rattle.ground.specs.Lists.{EachBelow, little}
 use Rattle.lanes.specs.Lanes.{ShowPromise, bitsOf}
 use Rattle.lanes.specs.Said.{AsAsked, LaneAnswer, NoNan, There, laneByte}
 use Rattle.lanes.specs.declared.Kind.{Kind}
-use Rattle.lanes.specs.declared.Shown.{Shown}
 use Rattle.lanes.specs.declared.Shown.the-variants.{NoLane}
+use Rattle.lanes.specs.declared.Shown.{Shown}
 use mathlib.Core.List.{List}
 use mathlib.Core.Logic.{_↔_}
 use mathlib.Core.Path.{_≡_}

@@ -13,14 +13,16 @@ use Rattle.memory.specs.Said.{AreaAccepted, AreasAccepted, Both, Holds, OneOf, 
 use Rattle.memory.specs.Troubles.{FindsByte, byteFound}
 use Rattle.memory.specs.Windows.{PartOf, PlacePromise, Shows, WindowPromise}
 use Rattle.memory.specs.declared.Address.{Address}
-use Rattle.memory.specs.declared.Cell.{Cell}
+use Rattle.memory.specs.declared.Cell.the-variants as C
 use Rattle.memory.specs.declared.Cell.the-variants.{Bad, Byte}
-use Rattle.memory.specs.declared.Fault.{Fault}
+use Rattle.memory.specs.declared.Cell.{Cell}
 use Rattle.memory.specs.declared.Fault.the-variants.{Denied, Nowhere}
-use Rattle.memory.specs.declared.Place.{Place}
+use Rattle.memory.specs.declared.Fault.{Fault}
 use Rattle.memory.specs.declared.Place.the-variants.{Nowhere}
-use Rattle.memory.specs.declared.Reading.{Reading}
+use Rattle.memory.specs.declared.Place.{Place}
+use Rattle.memory.specs.declared.Reading.the-variants as R
 use Rattle.memory.specs.declared.Reading.the-variants.{Bad, Value}
+use Rattle.memory.specs.declared.Reading.{Reading}
 use denote.Ref.{RefT}
 use lib.IntN.{_+ℤ_, negℤ, pos, ℤ}
 use lib.ListN.{drop, getD, length}
