@@ -32,7 +32,7 @@ class Building(Benches):
         for crate in ("ground", "bench", "replay", "later"):
             (self.copy / "crates" / crate / "src").mkdir(parents=True)
             (self.copy / "crates" / crate / "src" / "lib.rt").write_text("")
-        self.script(self.copy / "replay", "#!/bin/sh\nexec target/bin/replay\n")
+        self.script(self.copy / "replay", "#!/bin/sh\necho >> launches\nexec target/bin/replay\n")
         (self.folder / "bin").mkdir()
         self.bench = self.write(toml())
 
@@ -64,6 +64,7 @@ class Building(Benches):
         self.assertRegex(lines[2], "^kj: built in [0-9]+ s$")
         self.assertIn("answer 0, ran", ran.stdout)
         self.assertEqual((self.kj(RT).stderr, self.calls()), ("", 1))
+        self.assertEqual((self.copy / "launches").read_text(), "\n\n", "by its launcher, which knows the machine")
 
     def test_a_second_kj_waits_for_the_build_of_the_first(self) -> None:
         slow = RT.replace("[ !", "sleep 1\n[ !")
