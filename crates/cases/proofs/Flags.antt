@@ -46,29 +46,29 @@ flags-packed f h =
 
 -- and the flags that are packed are read, and are not strange
 module _ (q : Asked) (few : q .kind ≤ 3) where
-  bits : (bitOf (q .simd) ≤ 1) × (bitOf (q .sve) ≤ 1) × (bitOf (q .f64mm) ≤ 1)
-  bits = (bit-most (q .simd), bit-most (q .sve), bit-most (q .f64mm))
+  bits-most : (bitOf (q .simd) ≤ 1) × (bitOf (q .sve) ≤ 1) × (bitOf (q .f64mm) ≤ 1)
+  bits-most = (bit-most (q .simd), bit-most (q .sve), bit-most (q .f64mm))
 
   pub flags-small : flagsFor q < 256 ^ 4
-  flags-small = omega (arith, bits)
+  flags-small = omega (arith, bits-most)
 
   pub simd-read : flagOf (flagsFor q) 0 ≡ q .simd
-  simd-read = let e : flagsFor q / 1 % 2 ≡ bitOf (q .simd) = omega (arith, bits) in rw e (bit-tested (q .simd))
+  simd-read = let e : flagsFor q / 1 % 2 ≡ bitOf (q .simd) = omega (arith, bits-most) in rw e (bit-tested (q .simd))
 
   pub sve-read : flagOf (flagsFor q) 1 ≡ q .sve
-  sve-read = let e : flagsFor q / 2 % 2 ≡ bitOf (q .sve) = omega (arith, bits) in rw e (bit-tested (q .sve))
+  sve-read = let e : flagsFor q / 2 % 2 ≡ bitOf (q .sve) = omega (arith, bits-most) in rw e (bit-tested (q .sve))
 
   pub f64mm-read : flagOf (flagsFor q) 2 ≡ q .f64mm
-  f64mm-read = let e : flagsFor q / 4 % 2 ≡ bitOf (q .f64mm) = omega (arith, bits) in rw e (bit-tested (q .f64mm))
+  f64mm-read = let e : flagsFor q / 4 % 2 ≡ bitOf (q .f64mm) = omega (arith, bits-most) in rw e (bit-tested (q .f64mm))
 
   pub kind-read : kindOf (flagsFor q) ≡ q .kind
-  kind-read = omega (arith, bits)
+  kind-read = omega (arith, bits-most)
 
   pub none-strange : strangeFlag (flagsFor q) ≡ false
   unfolding strangeFlag
   none-strange =
-      let low : flagsFor q % 256 ≤ 7 = omega (arith, bits) in
-      let high : flagsFor q ≤ 65535 = omega (arith, bits) in
+      let low : flagsFor q % 256 ≤ 7 = omega (arith, bits-most) in
+      let high : flagsFor q ≤ 65535 = omega (arith, bits-most) in
       rw (le-ltb 7 _ low, le-ltb 65535 _ high)
 
 -- the kinds that are here

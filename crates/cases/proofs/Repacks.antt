@@ -18,7 +18,7 @@ use Rattle.cases.specs.declared.heads.Case.{Case}
 use Rattle.cases.proofs.Limits.{Bounds}
 use Rattle.cases.proofs.Cuts.{partsIn, numbersIn, flatten-append, parts-long, parts-joined, numbers-joined, laid-packed}
 use Rattle.cases.proofs.Flags.{flags-packed, kind-known}
-use Rattle.cases.proofs.Opens.{GoodHead, Good, kind-asked, head-least}
+use Rattle.cases.proofs.Opens.{Good, kind-asked, head-least}
 use Rattle.cases.proofs.Unpacks.{lengthsIn, askedFrom}
 
 -- the parts of a list of bytes are bytes, and a number of n bytes fits them
@@ -48,9 +48,6 @@ module _ (s : List ℕ) (bytes : EachBelow 256 s) where
 
     abbrev q : Asked
     q = askedFrom s c
-
-    abbrev head : GoodHead s
-    head = g .head
 
     abbrev bounds : Bounds c
     bounds = g .head .bounds
@@ -102,7 +99,7 @@ module _ (s : List ℕ) (bytes : EachBelow 256 s) where
 
     flags-same : flagsFor q ≡ flagsIn s
     unfolding headOf
-    flags-same = rw (kind-asked s) (flags-packed (flagsIn s) (head .flags))
+    flags-same = rw (kind-asked s) (flags-packed (flagsIn s) (g .head .flags))
 
     -- the table's rows
     abbrev widths : List ℕ
@@ -114,7 +111,7 @@ module _ (s : List ℕ) (bytes : EachBelow 256 s) where
     rows : headParts q ≡ numbersIn s 0 widths
     unfolding headParts headOf
     rows = λ i.
-        inBytes 4 (sym (head .begins) i)
+        inBytes 4 (sym (g .head .begins) i)
         ∷ inBytes 4 (q .word)
         ∷ inBytes 4 (flags-same i)
         ∷ inBytes 4 (q .level)
@@ -176,8 +173,8 @@ module _ (s : List ℕ) (bytes : EachBelow 256 s) where
           ram = (rw (long 5) (bounds .ram), below 5);
           ramRights = (rw (long 6) (bounds .ramRights), below 6);
           blob = (rw (long 7) (bounds .blob), below 7);
-          level = head .level;
-          kind = rw kind-same (kind-known (kindOf (flagsIn s)) (head .kind));
+          level = g .head .level;
+          kind = rw kind-same (kind-known (kindOf (flagsIn s)) (g .head .kind));
           bare = λ e. let b = question-bare e in (b .0, b .1, b .2, b .3, ap (partAt s (blobAt c)) (b .4));
         }
 
