@@ -3,7 +3,8 @@ import re
 from dataclasses import dataclass
 
 # The end of an edit's first line; .ci/refused says what it means.
-CLAIM = re.compile(r"; refused by (?:the clause `(?P<clause>[^`]+)` of )?`(?P<name>[^`]+)` of `(?P<where>[^`]+)`$")
+PLACE = r"(?:the clause `([^`]+)` of )?`([^`]+)` of `([^`]+)`"
+CLAIMS = re.compile(f"; refused by (?P<places>{PLACE}(?:, then by {PLACE})*)$")
 PARTS = ("src/", "specs/", "proofs/")
 
 
@@ -33,11 +34,11 @@ class Edit:
         """What its log's files begin with."""
         return f"target/must-fail/{self.crate}/{self.name}"
 
-    def claim(self):
-        """What its first line claims, or none."""
+    def claims(self):
+        """What its first line claims, in the order of the log."""
         first = self.text.split("\n", 1)[0]
-        match = CLAIM.search(first)
-        return Claim(match["name"], match["where"], match["clause"]) if match and first.startswith("# ") else None
+        match = CLAIMS.search(first) if first.startswith("# ") else None
+        return [Claim(name, where, clause or None) for clause, name, where in re.findall(PLACE, match["places"])] if match else []
 
     def pairs(self):
         """Each (file, old, new), read as `rt must-fail` reads them."""

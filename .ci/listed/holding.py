@@ -1,4 +1,5 @@
 """Whether each wrong edit is refused by what its first line claims, by the log that trying it left."""
+import functools
 import re
 
 from listed import edits, logs, places
@@ -29,8 +30,18 @@ def hold_times(edit, texts, times):
                 raise Unfit(f"its log is older than crates/{crate}/{path}")
 
 
-def refusal(edit, texts, times):
-    """What refused an edit, by its log."""
+def those_that_fit(said, facts):
+    """What a log has behind its first error, without what has no place."""
+    for fact in facts:
+        try:
+            place = said(fact)
+        except Unfit:
+            continue
+        yield place
+
+
+def refusals(edit, texts, times):
+    """What refused an edit, by its log: the first, and what the log has behind it."""
     if edit.log + ".out" not in texts:
         raise Unfit("it has no log")
     logs.verdict(texts[edit.log + ".out"])
@@ -38,16 +49,21 @@ def refusal(edit, texts, times):
     if log is None or edits.applied(edit, tree) != copy:
         raise Unfit("its log is of another tree: what was tried is not the crate with this edit")
     hold_times(edit, texts, times)
-    return places.said(logs.first(log, edit.log), copy, tree, places.tie_in(texts, edit.crate))
+    first, *rest = logs.facts(log, edit.log)
+    said = functools.partial(places.said, copy=copy, tree=tree, tie_of=places.tie_in(texts, edit.crate))
+    return said(first), those_that_fit(said, rest)
 
 
 def hold(edit, texts, times):
     """Holds what an edit claims to what refused it."""
-    claim, by = edit.claim(), refusal(edit, texts, times)
-    if claim is None:
+    claims, (by, then) = edit.claims(), refusals(edit, texts, times)
+    if not claims:
         raise Unfit(f"its first line does not end in '; refused by `NAME` of `WHERE`', and it is refused by {by}")
-    if not places.is_claimed(claim, by):
-        raise Unfit(f"it claims {claim}, and is refused by {by}")
+    if not places.is_claimed(claims[0], by):
+        raise Unfit(f"it claims {claims[0]}, and is refused by {by}")
+    for claim in claims[1:]:
+        if not any(places.is_claimed(claim, one) for one in then):
+            raise Unfit(f"it claims {claim}, which the log does not have behind what is claimed before it")
 
 
 def look(texts, times, which, crates=()):

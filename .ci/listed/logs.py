@@ -1,4 +1,4 @@
-"""What the log of a wrong edit says first, and whether that is a fact that does not hold."""
+"""What the log of a wrong edit says, and whether the first of it is a fact that does not hold."""
 import re
 from dataclasses import dataclass
 
@@ -9,12 +9,13 @@ NOTE = re.compile(r"note: \S+:\d+:\d+: it is not proved that .*\(`(?P<need>[^`]+
 NO_PROOF = re.compile(r"fn \w+::(?P<function>\S+): no proof: .*; `search` does not close (?P<needs>.*)$")
 # What rests on a declaration that was refused is refused for that alone.
 FOLLOWS = re.compile(r"`[^`]+` was not admitted \(")
-# How a line of an error begins that says of a fact that it is not proved. Whatever else an error says, a name, a bracket or a field that
-# is not there, is none; so is what is not known here.
+# What a line of an error begins with that says of a fact that it is not proved. Whatever else an error says is no fact: a name, a bracket
+# or a field that is not there, and what is not known here.
 FACT = re.compile(
-    r"`search`: no proof of |`cc`: the equations do not join |`omega`: .* does not follow from what it read|expected type `"
-    r"|as printed, the two types |computed as far as they go, the two types "
-    r"|`rw`: no occurrence of the path's left endpoint in the |`rw` has no last argument, so what it leaves must be a path whose two ends are equal"
+    r"^(?:`search`: no proof of |`cc`: the equations do not join |`omega`: [^\0]*? does not follow from what it read"
+    r"|expected type `|(?:as printed|computed as far as they go), the two (?:types|sides) "
+    r"|`rw`: no occurrence of the path's left endpoint in the |`simp`: no equation of the list has an instance in the goal "
+    r"|`(?:rw|simp)` has no last argument, so what it leaves must be a path whose two ends are equal)", re.M
 )
 
 
@@ -69,11 +70,15 @@ def unproved(log):
             need = None
 
 
-def first(log, folder):
-    """The first fact that does not hold, by the log."""
-    found = next(errors(log, folder), None) or next(unproved(log), None)
-    if found is None:
+def facts(log, folder):
+    """The facts that do not hold, by a log: the errors first, as the prover tells them. The first error has to be one."""
+    found = list(errors(log, folder)) + list(unproved(log))
+    if not found:
         raise Unfit("its log has no error")
-    if isinstance(found, Error) and not any(FACT.match(line) for line in found.text.split("\n")):
-        raise Unfit(f"no fact, by {found.path}:{found.line}: {found.text.split(chr(10))[0][:120]}")
-    return found
+    if not is_fact(found[0]):
+        raise Unfit(f"no fact, by {found[0].path}:{found[0].line}: {found[0].text.split(chr(10))[0][:120]}")
+    return [one for one in found if is_fact(one)]
+
+
+def is_fact(found):
+    return isinstance(found, Unproved) or FACT.search(found.text) is not None

@@ -95,7 +95,7 @@ def of_error(error, copy, tie_of):
         need = argument_need(place, (error.line, error.column - 1), clause, tie_of(place))
     if need is None:
         inner = clause_at(error.line, [clause])
-        has_more = len(made.parts) > 1 or inner is not clause
+        has_more = inner is not clause or sum(part[0].text == made.name for part in made.parts) > 1
         return Claim(made.name, where, antt.joined(antt.split_at(inner, "=")[0]) if has_more else None)
     return Claim(need, where.removeprefix("proofs/").removesuffix(PROOF).replace("/", "::"))
 
