@@ -24,10 +24,10 @@ def rests_on(crate, crates):
 
 def hold_times(edit, texts, times):
     """No file of the crates that the edit's crate rests on is newer than the log."""
-    for crate in sorted(rests_on(edit.crate, crate_lines(texts["crates.txt"]))):
-        for path in edits.files_below(texts, f"crates/{crate}/"):
-            if times.get(f"crates/{crate}/{path}", 0) > times.get(edit.log + "/.log", 0):
-                raise Unfit(f"its log is older than crates/{crate}/{path}")
+    below = tuple(f"crates/{crate}/{part}" for crate in rests_on(edit.crate, crate_lines(texts["crates.txt"])) for part in edits.PARTS)
+    newer = [path for path, time in times.items() if time > times.get(edit.log + "/.log", 0) and path.startswith(below)]
+    if newer:
+        raise Unfit(f"its log is older than {min(newer)}")
 
 
 def those_that_fit(said, facts):

@@ -58,7 +58,7 @@ def argument_need(proof, place, clause, tie):
 
 
 def clause_at(line, clauses):
-    """The clause that a line stands in, be it one of a `where`; none where there is no such clause."""
+    """The clause that a line stands in, and of a clause with a `where` the one below it; none where there is no such clause."""
     for clause in clauses:
         if clause[0].line <= line <= clause[-1].line:
             return clause_at(line, antt.items_of(antt.split_at(clause, "where")[1])) or clause
@@ -72,7 +72,7 @@ def declared_at(error, copy):
     made = antt.read(copy[error.path]).declared.get(error.name)
     if made is None:
         raise Unfit(f"its first error is one of `{error.name}`, which {error.path} does not declare")
-    for clause in made.parts:
+    for clause in made.parts if made.kind == "value" else ():
         if clause[0].line <= error.line <= clause[-1].line:
             return made, clause
     raise Unfit(f"its first error stands in the statement of `{made.name}`, and not in its proof")
