@@ -1,10 +1,10 @@
 -- A case that bytes open with is within its limits, so that none is longer than the buffers of a program.
 use mathlib.Core.Path.{_≡_, refl}
-use mathlib.Core.Bool.{not}
+use mathlib.Core.Bool.{false, not}
 use mathlib.Core.List.{List}
 use Prim.Native.Nat.{ℕ, _+_, _*_, _≤_}
 use native.Mathlib.Omega.{arith}
-use borrow.Author.Tests.{ltb-false, le-ltb}
+use borrow.Author.Tests.{ltb-false, le-ltb, eqb-true, not-false}
 use lib.Dec.{eqb, ltb, lit≤}
 use lib.ListN.{length}
 use Rattle.ground.specs.Lists.{bytesAt}
@@ -41,48 +41,55 @@ pub head-most : (kind : ℕ) → headBytes kind ≤ 136
 unfolding headBytes
 head-most kind = if-cases (λ (n : ℕ). n ≤ 136) (eqb kind 0) 96 136 (λ _. lit≤ tt) (λ _. lit≤ tt)
 
--- a fact of every refusal and of every case within the limits holds of whatever bytes open with
-module _ (P : Opened → Type 0) (no : (why : Refusal) → P (Broken why)) (yes : (c : Case) → Bounds c → P (Begins c (caseBytes c))) where
-  limits : (c : Case) → P (limited c)
-  unfolding limited
-  limits c =
+-- a head that begins a case
+pub record GoodHead (s : List ℕ) : Type 0 where
+  pub begins : bytesAt s 0 4 ≡ magic
+  pub flags : strangeFlag (flagsIn s) ≡ false
+  pub kind : strangeKind (kindOf (flagsIn s)) ≡ false
+  pub level : bytesAt s 12 4 ≤ 4
+  pub bounds : Bounds (headOf s)
+
+-- a fact of every refusal, and of the case of a good head, holds of whatever bytes open with
+module _ (s : List ℕ) (P : Opened → Type 0) (no : (why : Refusal) → P (Broken why)) (yes : GoodHead s → P (Begins (headOf s) (caseBytes (headOf s)))) where
+  pub opened : P (openedOf s)
+  unfolding openedOf markedOf limited
+  opened =
+      let c = headOf s in
+      if-cases P (ltb (length s) 4) _ _ (λ _. no _) (λ _.
+      if-cases P (not (eqb (bytesAt s 0 4) magic)) _ _ (λ _. no _) (λ m.
+      if-cases P (ltb (length s) 96) _ _ (λ _. no _) (λ _.
+      if-cases P (strangeFlag (flagsIn s)) _ _ (λ _. no _) (λ flags.
+      if-cases P (strangeKind (kindOf (flagsIn s))) _ _ (λ _. no _) (λ kind.
+      if-cases P (ltb 4 (bytesAt s 12 4)) _ _ (λ _. no _) (λ level.
+      if-cases P (ltb (length s) (headBytes (kindOf (flagsIn s)))) _ _ (λ _. no _) (λ _.
       if-cases P (ltb 65536 (c .vectors)) _ _ (λ _. no _) (λ v.
       if-cases P (ltb 4096 (c .predicates)) _ _ (λ _. no _) (λ p.
       if-cases P (ltb 128 (c .scalars)) _ _ (λ _. no _) (λ x.
       if-cases P (ltb 131072 (c .flash)) _ _ (λ _. no _) (λ f.
-      if-cases P (ltb 64 (c .«flash_rights»)) _ _ (λ _. no _) (λ g.
+      if-cases P (ltb 64 (c .«flash_rights»)) _ _ (λ _. no _) (λ fr.
       if-cases P (ltb 131072 (c .ram)) _ _ (λ _. no _) (λ r.
-      if-cases P (ltb 64 (c .«ram_rights»)) _ _ (λ _. no _) (λ s.
+      if-cases P (ltb 64 (c .«ram_rights»)) _ _ (λ _. no _) (λ rr.
       if-cases P (ltb 65536 (c .question .blob)) _ _ (λ _. no _) (λ b.
-      yes c
+      yes
       (record {
-        vectors = ltb-false _ _ v;
-        predicates = ltb-false _ _ p;
-        scalars = ltb-false _ _ x;
-        flash = ltb-false _ _ f;
-        flashRights = ltb-false _ _ g;
-        ram = ltb-false _ _ r;
-        ramRights = ltb-false _ _ s;
-        blob = ltb-false _ _ b;
-      })))))))))
-
-  marks : (s : List ℕ) → P (markedOf s)
-  unfolding markedOf
-  marks s =
-      if-cases P (strangeFlag (flagsIn s)) _ _ (λ _. no _) (λ _.
-      if-cases P (strangeKind (kindOf (flagsIn s))) _ _ (λ _. no _) (λ _.
-      if-cases P (ltb 4 (bytesAt s 12 4)) _ _ (λ _. no _) (λ _.
-      if-cases P (ltb (length s) (headBytes (kindOf (flagsIn s)))) _ _ (λ _. no _) (λ _. limits (headOf s)))))
-
-  opened : (s : List ℕ) → P (openedOf s)
-  unfolding openedOf
-  opened s =
-      if-cases P (ltb (length s) 4) _ _ (λ _. no _) (λ _.
-      if-cases P (not (eqb (bytesAt s 0 4) magic)) _ _ (λ _. no _) (λ _.
-      if-cases P (ltb (length s) 96) _ _ (λ _. no _) (λ _. marks s)))
+        begins = eqb-true _ _ (not-false _ m);
+        flags = flags;
+        kind = kind;
+        level = ltb-false _ _ level;
+        bounds = record {
+          vectors = ltb-false _ _ v;
+          predicates = ltb-false _ _ p;
+          scalars = ltb-false _ _ x;
+          flash = ltb-false _ _ f;
+          flashRights = ltb-false _ _ fr;
+          ram = ltb-false _ _ r;
+          ramRights = ltb-false _ _ rr;
+          blob = ltb-false _ _ b;
+        };
+      }))))))))))))))))
 
 pub within-limits : (s : List ℕ) → WithinLimits (openedOf s)
-within-limits = opened WithinLimits (λ why. tt) (λ c b. (refl, b .vectors, b .scalars))
+within-limits s = opened s WithinLimits (λ why. tt) (λ g. (refl, g .bounds .vectors, g .bounds .scalars))
 
 -- the longest case and the longest outcome
 abbrev pub Longest : Opened → Type 0
@@ -96,4 +103,6 @@ outcome-most c b =
     (λ _. omega (arith, b .vectors, b .scalars)) (λ _. lit≤ tt)
 
 pub longest-case : (s : List ℕ) → Longest (openedOf s)
-longest-case = opened Longest (λ why. tt) (λ c b. (let h = head-most (c .question .kind) in omega arith, outcome-most c b))
+longest-case s =
+    opened s Longest (λ why. tt)
+    (λ g. let b = g .bounds in let h = head-most (headOf s .question .kind) in (omega arith, outcome-most (headOf s) b))

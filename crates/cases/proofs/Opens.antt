@@ -1,17 +1,15 @@
 -- Which bytes are answered, in one record: "Bad input" of docs/CASES.md, turned round. Any others are refused.
 use Prim.Native.Nat.{ℕ, _≤_}
 use mathlib.Core.Path.{_≡_, refl, sym}
-use mathlib.Core.Bool.{false, not}
 use mathlib.Core.List.{List}
 use mathlib.Core.Logic.{_⊎_, inl, inr}
 use native.Mathlib.Omega.{arith}
-use borrow.Author.Tests.{ltb-false, le-ltb, eqb-true, eq-eqb, not-false}
+use borrow.Author.Tests.{ltb-false, le-ltb, eqb-true, eq-eqb}
 use lib.Dec.{eqb, ltb, lit≤}
 use lib.ListN.{length}
-use Rattle.ground.specs.Lists.{bytesAt}
 use Rattle.ground.proofs.Laws.{if-cases}
 use Rattle.cases.specs.Parts.{headBytes, caseBytes}
-use Rattle.cases.specs.Heads.{magic, flagsIn, kindOf, strangeFlag, strangeKind, questionOf, headOf, limited, markedOf, openedOf}
+use Rattle.cases.specs.Heads.{flagsIn, kindOf, questionOf, headOf, markedOf, openedOf}
 use Rattle.cases.specs.Outcomes.{outcomeLength}
 use Rattle.cases.specs.Answers.{After, outcomeIn, onCase, onOpened, afterCase}
 use Rattle.cases.specs.declared.heads.Question.{Question}
@@ -20,17 +18,9 @@ use Rattle.cases.specs.declared.heads.Refusal.{Refusal}
 use Rattle.cases.specs.declared.heads.Opened.{Opened}
 use Rattle.cases.specs.declared.heads.Opened.the-variants.{Begins, Broken}
 use Rattle.cases.specs.declared.Answered.the-variants.{Written, Not}
-use Rattle.cases.proofs.Limits.{Bounds, all-short}
+use Rattle.cases.proofs.Limits.{all-short, GoodHead, opened}
 
--- a head that begins a case
-pub record GoodHead (s : List ℕ) : Type 0 where
-  pub begins : bytesAt s 0 4 ≡ magic
-  pub flags : strangeFlag (flagsIn s) ≡ false
-  pub kind : strangeKind (kindOf (flagsIn s)) ≡ false
-  pub level : bytesAt s 12 4 ≤ 4
-  pub bounds : Bounds (headOf s)
-
--- .. and every byte of the case is there
+-- a head that begins a case, and every byte of the case is there
 pub record Good (s : List ℕ) : Type 0 where
   pub head : GoodHead s
   pub whole : caseBytes (headOf s) ≤ length s
@@ -74,43 +64,7 @@ Opening s (Broken why) = Unit {0}
 Opening s (Begins c n) = (c ≡ headOf s) × GoodHead s
 
 opening : (s : List ℕ) → Opening s (openedOf s)
-unfolding openedOf markedOf limited
-opening s =
-    let P = Opening s in
-    let c = headOf s in
-    if-cases P (ltb (length s) 4) _ _ (λ _. tt) (λ _.
-    if-cases P (not (eqb (bytesAt s 0 4) magic)) _ _ (λ _. tt) (λ m.
-    if-cases P (ltb (length s) 96) _ _ (λ _. tt) (λ _.
-    if-cases P (strangeFlag (flagsIn s)) _ _ (λ _. tt) (λ flags.
-    if-cases P (strangeKind (kindOf (flagsIn s))) _ _ (λ _. tt) (λ kind.
-    if-cases P (ltb 4 (bytesAt s 12 4)) _ _ (λ _. tt) (λ level.
-    if-cases P (ltb (length s) (headBytes (kindOf (flagsIn s)))) _ _ (λ _. tt) (λ _.
-    if-cases P (ltb 65536 (c .vectors)) _ _ (λ _. tt) (λ v.
-    if-cases P (ltb 4096 (c .predicates)) _ _ (λ _. tt) (λ p.
-    if-cases P (ltb 128 (c .scalars)) _ _ (λ _. tt) (λ x.
-    if-cases P (ltb 131072 (c .flash)) _ _ (λ _. tt) (λ f.
-    if-cases P (ltb 64 (c .«flash_rights»)) _ _ (λ _. tt) (λ fr.
-    if-cases P (ltb 131072 (c .ram)) _ _ (λ _. tt) (λ r.
-    if-cases P (ltb 64 (c .«ram_rights»)) _ _ (λ _. tt) (λ rr.
-    if-cases P (ltb 65536 (c .question .blob)) _ _ (λ _. tt) (λ b. (
-      refl,
-      record {
-        begins = eqb-true _ _ (not-false _ m);
-        flags = flags;
-        kind = kind;
-        level = ltb-false _ _ level;
-        bounds = record {
-          vectors = ltb-false _ _ v;
-          predicates = ltb-false _ _ p;
-          scalars = ltb-false _ _ x;
-          flash = ltb-false _ _ f;
-          flashRights = ltb-false _ _ fr;
-          ram = ltb-false _ _ r;
-          ramRights = ltb-false _ _ rr;
-          blob = ltb-false _ _ b;
-        };
-      },
-    ))))))))))))))))
+opening s = opened s (Opening s) (λ why. tt) (λ g. (refl, g))
 
 -- so no others are answered
 pub answered-good : (s out : List ℕ) (n k : ℕ) → afterCase s out .answer ≡ Written n k
