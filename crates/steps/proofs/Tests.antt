@@ -41,8 +41,8 @@ module _ (l : Lent) (b : Bench) where
       let made = checksStack (plan i) (governingBytes l (plan i)) in (
         λ h.
             let f = and-left (eqb (i .base) 31 && made) _ h in
-            let g = and-right (eqb (i .base) 31 && made) _ h in
-            (eqb-true _ 31 (and-left (eqb (i .base) 31) _ f), c .0 (and-right (eqb (i .base) 31) _ f), λ z. never (eq-eqb _ 0 z) (not-true _ g)),
+            let g = not-true (eqb (scalar (b .scalars) 31 % 16) 0) (and-right (eqb (i .base) 31 && made) _ h) in
+            (eqb-true _ 31 (and-left (eqb (i .base) 31) _ f), c .0 (and-right (eqb (i .base) 31) _ f), λ z. never (eq-eqb _ 0 z) g),
         λ h.
             and-both (eqb (i .base) 31 && made) _
             (and-both (eqb (i .base) 31) _ (eq-eqb _ 31 (h .0)) (c .1 (h .1)))
