@@ -13,8 +13,9 @@ FOLLOWS = re.compile(r"`[^`]+` was not admitted \(")
 # or a field that is not there, and what is not known here.
 FACT = re.compile(
     r"^(?:`search`: no proof of |`cc`: the equations do not join |`omega`: [^\0]*? does not follow from what it read"
-    r"|expected type `|(?:as printed|computed as far as they go), the two (?:types|sides|indices) |(?:`[^`]*` ≟ `[^`]*`: )?does not hold \(this comparison"
-    r"|`rw`: no occurrence of the path's left endpoint in the |`rw`: no part of the goal |`simp`: no equation of the list has an instance in the goal "
+    r"|expected type `|(?:as printed|computed as far as they go), the two (?:types|sides|indices) |.*\bdoes not hold \(this comparison"
+    r"|`rw`: no (?:part of the goal|occurrence of the path's (?:left|right) endpoint in the) "
+    r"|`simp`: no equation of the list has an instance in the goal "
     r"|`(?:rw|simp)` has no last argument, so what it leaves must be a path whose two ends are equal)", re.M
 )
 
