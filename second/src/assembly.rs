@@ -1,7 +1,7 @@
 //! The disassembler: a load of ours as assembler text, spelt as binutils spells it.
 
 use crate::decode::{decode, Family, Load};
-use crate::rules::Right;
+use crate::rules::{Right, Rules};
 
 /// The text of a word that decodes to one of the nine families on a bench that has everything;
 /// none for a word outside them or one that is undefined by itself.
@@ -18,8 +18,8 @@ pub fn text_or_why_not(word: u32) -> String {
 }
 
 fn text(load: &Load) -> String {
-    if load.family.is_ld1r() {
-        return ld1r(load);
+    if load.family.is_ldnr() {
+        return ldnr(load);
     }
     format!(
         "{} {{z{}.{}}}, p{}/z, [{}{}]",
@@ -32,19 +32,27 @@ fn text(load: &Load) -> String {
     )
 }
 
-/// Page 004: `LD1R { <Vt>.<T> }, [<Xn|SP>]`, `..., <imm>` or `..., <Xm>`.
-fn ld1r(load: &Load) -> String {
-    let arrangement = format!("{}{}", load.datasize / load.esize, letter(load.esize));
+/// Page 004: `LD1R { <Vt>.<T> }, [<Xn|SP>]`, `..., <imm>` or `..., <Xm>`, and so for LD2R to LD4R.
+fn ldnr(load: &Load) -> String {
     let post = match load.family {
-        Family::Ld1rPostIndex if load.m == 31 => format!(", #{}", load.esize / 8),
-        Family::Ld1rPostIndex => format!(", x{}", load.m),
+        Family::LdnrPostIndex if load.m == 31 => format!(", #{}", load.selem * load.esize / 8),
+        Family::LdnrPostIndex => format!(", x{}", load.m),
         _ => String::new(),
     };
-    format!(
-        "ld1r {{v{}.{arrangement}}}, [{}]{post}",
-        load.t,
-        base(load.n)
-    )
+    let (registers, list) = (load.selem, list(load));
+    format!("ld{registers}r {{{list}}}, [{}]{post}", base(load.n))
+}
+
+/// The register list: three or four are a range, save where 31 is followed by 0.
+fn list(load: &Load) -> String {
+    let arrangement = format!("{}{}", load.datasize / load.esize, letter(load.esize));
+    let number = |s| Right.destination(load.t, s, load.selem);
+    let name = |s| format!("v{}.{arrangement}", number(s));
+    let last = load.selem - 1;
+    if last >= 2 && number(last) > load.t {
+        return format!("{}-{}", name(0), name(last));
+    }
+    (0..load.selem).map(name).collect::<Vec<_>>().join(", ")
 }
 
 fn mnemonic(load: &Load) -> String {

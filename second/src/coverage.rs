@@ -183,12 +183,12 @@ impl Coverage {
     pub fn in_words(&self) -> String {
         let mut text = String::new();
         for (rows, columns) in TABLES {
-            text += &format!("{:<19}", format!("{} x {}", rows.title(), columns.title()));
+            text += &format!("{:<20}", format!("{} x {}", rows.title(), columns.title()));
             for name in columns.names() {
                 text += &format!(" {name:>width$}", width = width(&name));
             }
             for (row, name) in rows.marks().zip(rows.names()) {
-                text += &format!("\n{name:<19}");
+                text += &format!("\n{name:<20}");
                 for (column, name) in columns.marks().zip(columns.names()) {
                     let cell = match why_not((row, column)) {
                         Some(_) => "-".to_string(),

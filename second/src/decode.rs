@@ -3,11 +3,12 @@
 use crate::machine::Answer;
 use crate::rules::{Dtype, Rules};
 
-/// The nine rows of document 01's family table.
+/// The nine rows of document 01's family table. Since request One the two of LD1R are those of LD1R to
+/// LD4R, LDnR for short: what tells these apart are two more fields of the word.
 #[derive(Clone, Copy, Debug, PartialEq, Eq, PartialOrd, Ord, Hash)]
 pub enum Family {
-    Ld1rNoOffset,
-    Ld1rPostIndex,
+    LdnrNoOffset,
+    LdnrPostIndex,
     Ld1rElement,
     Ld1Immediate,
     Ld1Scalar,
@@ -48,8 +49,8 @@ impl Pattern {
 
 impl Family {
     pub const ALL: [Family; 9] = [
-        Family::Ld1rNoOffset,
-        Family::Ld1rPostIndex,
+        Family::LdnrNoOffset,
+        Family::LdnrPostIndex,
         Family::Ld1rElement,
         Family::Ld1Immediate,
         Family::Ld1Scalar,
@@ -59,11 +60,11 @@ impl Family {
         Family::Ld1roScalar,
     ];
 
-    /// The family's row; h and l are dh and dl, d dtype, z size or msz, i an immediate.
+    /// The family's row; o is opcode<0>, h and l are dh and dl, d dtype, z size or msz, i an immediate.
     pub const fn pattern(self) -> Pattern {
         match self {
-            Family::Ld1rNoOffset => Pattern::of("0 Q 001101 0 L 0 00000 110 S zz nnnnn ttttt"),
-            Family::Ld1rPostIndex => Pattern::of("0 Q 001101 1 L 0 mmmmm 110 S zz nnnnn ttttt"),
+            Family::LdnrNoOffset => Pattern::of("0 Q 001101 0 L R 00000 11o S zz nnnnn ttttt"),
+            Family::LdnrPostIndex => Pattern::of("0 Q 001101 1 L R mmmmm 11o S zz nnnnn ttttt"),
             Family::Ld1rElement => Pattern::of("1000010 hh 1 iiiiii 1 ll ggg nnnnn ttttt"),
             Family::Ld1Immediate => Pattern::of("1010010 dddd 0 iiii 101 ggg nnnnn ttttt"),
             Family::Ld1Scalar => Pattern::of("1010010 dddd mmmmm 010 ggg nnnnn ttttt"),
@@ -83,8 +84,8 @@ impl Family {
 
     pub fn name(self) -> &'static str {
         match self {
-            Family::Ld1rNoOffset => "LD1R no offset",
-            Family::Ld1rPostIndex => "LD1R post-index",
+            Family::LdnrNoOffset => "LD1R-LD4R no offset",
+            Family::LdnrPostIndex => "LD1R-LD4R post-index",
             Family::Ld1rElement => "LD1R by element",
             Family::Ld1Immediate => "LD1 immediate",
             Family::Ld1Scalar => "LD1 scalar",
@@ -95,9 +96,9 @@ impl Family {
         }
     }
 
-    /// LD1R of page 004, the one that is no SVE load.
-    pub fn is_ld1r(self) -> bool {
-        matches!(self, Family::Ld1rNoOffset | Family::Ld1rPostIndex)
+    /// LD1R to LD4R of page 004, the ones that are no SVE loads.
+    pub fn is_ldnr(self) -> bool {
+        matches!(self, Family::LdnrNoOffset | Family::LdnrPostIndex)
     }
 
     /// The SVE forms with a scalar index.
@@ -127,6 +128,8 @@ impl Family {
 #[derive(Clone, Copy, Debug, PartialEq, Eq)]
 pub struct Load {
     pub family: Family,
+    /// How many registers are loaded, from t on: 1 to 4 for LD1R to LD4R, 1 for the others.
+    pub selem: u64,
     pub t: usize,
     pub n: usize,
     pub m: usize,
@@ -136,16 +139,16 @@ pub struct Load {
     pub unsigned: bool,
     /// imm6 or imm4 as an integer.
     pub offset: i64,
-    /// LD1R: how many bits of V are filled; for the others 0.
+    /// LD1R to LD4R: how many bits of each V are filled; for the others 0.
     pub datasize: u64,
 }
 
 impl Load {
-    /// How many lanes a load consults at this VL: one read for LD1R, the block's own lanes for
-    /// LD1RQ and LD1RO, else all.
+    /// How many lanes a load consults at this VL: the block's own lanes for LD1RQ and LD1RO, else all.
+    /// LD1R to LD4R have an element for each register in place of lanes.
     pub fn lanes(&self, vl: u64) -> u64 {
-        if self.family.is_ld1r() {
-            1
+        if self.family.is_ldnr() {
+            self.selem
         } else {
             self.family.block().unwrap_or(vl) / self.esize
         }
@@ -166,12 +169,18 @@ fn bits(word: u32, high: u32, low: u32) -> u32 {
     (word >> low) & ((1 << (high - low + 1)) - 1)
 }
 
+/// How many registers a word of LD1R to LD4R loads, whether it is undefined or not.
+pub fn registers<R: Rules + ?Sized>(rules: &R, word: u32) -> u64 {
+    rules.selem(bits(word, 13, 13), bits(word, 21, 21))
+}
+
 /// Decodes a word: 2 if no row fits, 3 for what the word and F64MM make undefined.
 pub fn decode<R: Rules + ?Sized>(rules: &R, word: u32, f64mm: bool) -> Result<Load, Answer> {
     let family = Family::of(word).ok_or(Answer::Outside)?;
-    let undefined = if family.is_ld1r() {
+    let undefined = if family.is_ldnr() {
         // Page 004: if L == '0' || S == '1' then UNDEFINED
-        bits(word, 22, 22) == 0 || bits(word, 12, 12) == 1
+        let (l, s) = (bits(word, 22, 22), bits(word, 12, 12));
+        !rules.replicate_allowed(registers(rules, word), l, s)
     } else {
         family.is_scalar() && !rules.index_allowed(bits(word, 20, 16) as usize)
             || family.is_ld1ro() && !f64mm
@@ -183,8 +192,8 @@ pub fn decode<R: Rules + ?Sized>(rules: &R, word: u32, f64mm: bool) -> Result<Lo
 }
 
 fn fields<R: Rules + ?Sized>(rules: &R, word: u32, family: Family) -> Load {
-    let sve = !family.is_ld1r();
-    let has_m = family.is_scalar() || family == Family::Ld1rPostIndex;
+    let sve = !family.is_ldnr();
+    let has_m = family.is_scalar() || family == Family::LdnrPostIndex;
     let Dtype {
         msize,
         esize,
@@ -199,6 +208,7 @@ fn fields<R: Rules + ?Sized>(rules: &R, word: u32, family: Family) -> Load {
     };
     Load {
         family,
+        selem: if sve { 1 } else { registers(rules, word) },
         t: register(4, 0, true),
         n: register(9, 5, true),
         m: register(20, 16, has_m),
@@ -223,7 +233,7 @@ fn sizes<R: Rules + ?Sized>(rules: &R, word: u32, family: Family) -> Dtype {
         unsigned: true,
     };
     match family {
-        Family::Ld1rNoOffset | Family::Ld1rPostIndex => same(bits(word, 11, 10)),
+        Family::LdnrNoOffset | Family::LdnrPostIndex => same(bits(word, 11, 10)),
         Family::Ld1rElement => rules.dtype(bits(word, 24, 23) << 2 | bits(word, 14, 13)),
         Family::Ld1Immediate | Family::Ld1Scalar => rules.dtype(bits(word, 24, 21)),
         _ => same(bits(word, 24, 23)),

@@ -45,10 +45,10 @@ pub fn case_in_words(case: &Case) -> String {
 
 fn registers_in_words(load: &Load, bench: &Bench) -> String {
     let mut text = format!("  base {}\n", scalar_in_words(bench, load.n));
-    if load.family.is_scalar() || load.family == Family::Ld1rPostIndex && load.m != SP {
+    if load.family.is_scalar() || load.family == Family::LdnrPostIndex && load.m != SP {
         text += &format!("  index {}\n", scalar_in_words(bench, load.m));
     }
-    if !load.family.is_ld1r() {
+    if !load.family.is_ldnr() {
         text += &predicate_in_words(load, bench);
     }
     text

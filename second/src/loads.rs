@@ -14,10 +14,9 @@ pub struct Report {
     pub address: u64,
 }
 
-/// What a load that ran changes besides PC: register t, and perhaps one base.
+/// What a load that ran changes besides PC: its destinations, and perhaps one base.
 struct Effect {
-    t: usize,
-    z: Vector,
+    z: Vec<(usize, Vector)>,
     wback: Option<(usize, u64)>,
 }
 
@@ -25,8 +24,7 @@ impl Effect {
     /// `Z[t, VL] = result`
     fn z(t: usize, result: Vector) -> Result<Effect, Stop> {
         Ok(Effect {
-            t,
-            z: result,
+            z: vec![(t, result)],
             wback: None,
         })
     }
@@ -79,8 +77,8 @@ fn execute<R: Rules + ?Sized>(
     }
     let load = decode(machine.rules, word, bench.f64mm)?;
     match load.family {
-        Family::Ld1rNoOffset => ld1r(machine, &load, false),
-        Family::Ld1rPostIndex => ld1r(machine, &load, true),
+        Family::LdnrNoOffset => ldnr(machine, &load, false),
+        Family::LdnrPostIndex => ldnr(machine, &load, true),
         Family::Ld1rElement => ld1r_element(machine, &load),
         Family::Ld1Immediate => ld1_immediate(machine, &load),
         Family::Ld1Scalar => ld1_scalar(machine, &load),
@@ -91,11 +89,14 @@ fn execute<R: Rules + ?Sized>(
     }
 }
 
-/// "Outside the destination, that base and the program counter, nothing changes."
+/// "Outside the destination, that base and the program counter, nothing changes"; since request One
+/// the destinations.
 fn commit(bench: &mut Bench, effect: &Effect) {
-    let size = effect.z.0.len();
-    if let Some(register) = bench.z.get_mut(effect.t * size..(effect.t + 1) * size) {
-        register.copy_from_slice(&effect.z.0);
+    for (t, z) in &effect.z {
+        let size = z.0.len();
+        if let Some(register) = bench.z.get_mut(t * size..(t + 1) * size) {
+            register.copy_from_slice(&z.0);
+        }
     }
     if let Some((n, base)) = effect.wback {
         bench.x[n] = base;
@@ -103,31 +104,46 @@ fn commit(bench: &mut Bench, effect: &Effect) {
     bench.x[PC] = bench.x[PC].wrapping_add(4);
 }
 
-/// Page 004, LD1R. Its loop over `selem` runs once: the R bit of all rows is 0.
-fn ld1r<R: Rules + ?Sized>(
+/// Page 004, LD1R to LD4R: the branch of `replicate`, which both rows always take. "A fault on any
+/// element changes no register": what the loop writes is kept until it is through.
+fn ldnr<R: Rules + ?Sized>(
     machine: &mut Machine<R>,
     load: &Load,
     wback: bool,
 ) -> Result<Effect, Stop> {
-    let Load { t, n, m, esize, .. } = *load;
+    let rules = machine.rules;
     machine.check_fp_advsimd_enabled64()?;
-    let ebytes = esize / 8;
-    if n == SP && machine.rules.ld1r_checks_sp(wback) {
+    if load.n == SP && rules.ldnr_checks_sp(load) {
         machine.check_sp_alignment()?;
     }
-    let address = machine.x(n);
-    let element = machine.mem(0, address, ebytes)?;
-    // V[t, datasize] = Replicate(element, datasize DIV esize), the rest of Z becomes zero
-    let mut result = Vector::zeros(machine.current_vl());
-    for e in 0..load.datasize / esize {
-        result.set_elem(e, esize, element);
+    let address = machine.x(load.n);
+    let ebytes = load.esize / 8;
+    let mut offs = 0;
+    let mut z = Vec::new();
+    for s in 0..load.selem {
+        let offset = i128::from(rules.element_offset(offs, s, load));
+        let element = machine.mem(s, rules.address(address, offset), ebytes)?;
+        let t = rules.destination(load.t, s, load.selem);
+        z.push((t, replicate(machine.current_vl(), load, element)));
+        offs += ebytes;
     }
-    let offs = if m != 31 { machine.x(m) } else { ebytes };
+    let offs = match load.m {
+        31 => rules.post_index_immediate(offs, load),
+        m => machine.x(m),
+    };
     Ok(Effect {
-        t,
-        z: result,
-        wback: wback.then_some((n, address.wrapping_add(offs))),
+        z,
+        wback: wback.then_some((load.n, address.wrapping_add(offs))),
     })
+}
+
+/// `V[t, datasize] = Replicate(element, datasize DIV esize)`; the rest of the Z register becomes zero.
+fn replicate(vl: u64, load: &Load, element: u64) -> Vector {
+    let mut result = Vector::zeros(vl);
+    for e in 0..load.datasize / load.esize {
+        result.set_elem(e, load.esize, element);
+    }
+    result
 }
 
 /// Page 000, LD1RB to LD1RD: load and broadcast to vector.

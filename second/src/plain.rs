@@ -23,33 +23,39 @@ fn report(answer: Answer, address: u64) -> Report {
     }
 }
 
-/// The report of a load that ran, else of one that did not. Nothing is changed before the last `?`.
+/// The report of a load that ran, else of one that did not. Nothing is changed before
+/// all that can fail is behind.
 fn execute(word: u32, bench: &mut Bench) -> Result<Report, Report> {
     if !accepted(bench) {
         return Err(report(Answer::SetUp, 0));
     }
     let size = (bench.vl / 8) as usize;
     let load = decode(word, bench.f64mm, size).map_err(|answer| report(answer, 0))?;
-    let ld1r = matches!(load.form, Form::Ld1r { .. });
-    let on = if ld1r { bench.simd } else { bench.sve };
+    let ldnr = matches!(load.form, Form::Ldnr { .. });
+    let on = if ldnr { bench.simd } else { bench.sve };
     if !on {
         return Err(report(Answer::SwitchedOff, 0));
     }
     if load.part > size {
         return Err(report(Answer::Undefined, 0));
     }
-    // Inactive lanes, the rest of a register and left-over bytes are zero from the start
-    let mut result = [0; 2048 / 8];
-    let result = &mut result[..size];
-    let count = ROWS[load.row](&load, bench, result)?;
-    bench.z[load.t * size..][..size].copy_from_slice(result);
-    if load.form == (Form::Ld1r { post: true }) {
-        let moved = match load.m {
-            31 => 1 << (load.row / 5),
-            m => bench.x[m],
-        };
-        bench.x[load.n] = bench.x[load.n].wrapping_add(moved);
-    }
+    let count = match load.form {
+        Form::Ldnr { post, registers } => {
+            SIZES[load.row](&load, registers, bench)?;
+            if post {
+                move_base(&load, registers, bench);
+            }
+            registers as u64
+        }
+        _ => {
+            // Inactive lanes and left-over bytes are zero from the start
+            let mut result = [0; 2048 / 8];
+            let result = &mut result[..size];
+            let count = ROWS[load.row](&load, bench, result)?;
+            bench.z[load.t * size..][..size].copy_from_slice(result);
+            count
+        }
+    };
     bench.x[PC] = bench.x[PC].wrapping_add(4);
     Ok(Report {
         count,
@@ -85,8 +91,10 @@ fn holds(area: &Area, address: u64) -> bool {
 
 #[derive(Clone, Copy, PartialEq, Eq)]
 enum Form {
-    Ld1r {
+    /// LD1R to LD4R.
+    Ldnr {
         post: bool,
+        registers: usize,
     },
     Element,
     /// LD1, LD1RQ and LD1RO by their index.
@@ -96,9 +104,10 @@ enum Form {
 
 struct Load {
     form: Form,
-    /// The row of the dtype table; memory and lanes of 1 << size bytes are row 5 x size.
+    /// The row of the dtype table; a block's memory and lanes of 1 << msz bytes are row 5 x msz. For
+    /// LD1R to LD4R the size.
     row: usize,
-    /// The bytes that are filled from memory: 8 or 16 for LD1R, a block's 16 or 32, else all.
+    /// The bytes that are filled from memory: 8 or 16 for LD1R to LD4R, a block's 16 or 32, else all.
     part: usize,
     imm: i64,
     t: usize,
@@ -115,10 +124,21 @@ fn family(word: u32) -> Option<(Form, bool)> {
         (0b101_0010, 0b001) if word & 0x0050_0000 == 0 => Some((Form::Immediate, true)),
         (0b101_0010, 0b000) if word & 0x0040_0000 == 0 => Some((Form::Scalar, true)),
         (0b100_0010, _) if word & 0x0040_8000 == 0x0040_8000 => Some((Form::Element, false)),
-        _ if word & 0xBFBF_E000 == 0x0D00_C000 => Some((Form::Ld1r { post: false }, false)),
-        _ if word & 0xBFA0_E000 == 0x0D80_C000 => Some((Form::Ld1r { post: true }, false)),
+        _ if word & 0xBF9F_C000 == 0x0D00_C000 => Some((structures(word, false), false)),
+        _ if word & 0xBF80_C000 == 0x0D80_C000 => Some((structures(word, true), false)),
         _ => None,
     }
+}
+
+/// LD1R to LD4R by opcode and R.
+fn structures(word: u32, post: bool) -> Form {
+    let registers = match (word >> 13 & 7, word >> 21 & 1) {
+        (0b110, 0) => 1,
+        (0b110, _) => 2,
+        (_, 0) => 3,
+        _ => 4,
+    };
+    Form::Ldnr { post, registers }
 }
 
 fn decode(word: u32, f64mm: bool, size: usize) -> Result<Load, Answer> {
@@ -126,8 +146,8 @@ fn decode(word: u32, f64mm: bool, size: usize) -> Result<Load, Answer> {
     let (form, block) = family(word).ok_or(Answer::Outside)?;
     let octaword = block && field(21, 1) == 1;
     let m = field(16, 5);
-    let ld1r = matches!(form, Form::Ld1r { .. });
-    if ld1r && (field(22, 1) == 0 || field(12, 1) == 1)
+    let ldnr = matches!(form, Form::Ldnr { .. });
+    if ldnr && (field(22, 1) == 0 || field(12, 1) == 1)
         || form == Form::Scalar && m == 31
         || octaword && !f64mm
     {
@@ -136,7 +156,7 @@ fn decode(word: u32, f64mm: bool, size: usize) -> Result<Load, Answer> {
     // Four bits with a sign: -8 to 7
     let imm4 = (field(16, 4) as i64 ^ 8) - 8;
     let (row, part, imm) = match form {
-        Form::Ld1r { .. } => (5 * field(10, 2), 8 << field(30, 1), 0),
+        Form::Ldnr { .. } => (field(10, 2), 8 << field(30, 1), 0),
         Form::Element => (field(23, 2) << 2 | field(13, 2), size, field(16, 6) as i64),
         _ if block => (5 * field(23, 2), 16 << field(21, 1), imm4),
         _ => (field(21, 4), size, imm4),
@@ -151,6 +171,58 @@ fn decode(word: u32, f64mm: bool, size: usize) -> Result<Load, Answer> {
         m,
         g: field(10, 3),
     })
+}
+
+type Size = fn(&Load, usize, &mut Bench) -> Result<(), Report>;
+
+/// LD1R to LD4R by the size of an element.
+const SIZES: [Size; 4] = [
+    structure::<1>,
+    structure::<2>,
+    structure::<4>,
+    structure::<8>,
+];
+
+/// Elements of M bytes, one for each register: all are read before the first register is filled.
+fn structure<const M: usize>(
+    load: &Load,
+    registers: usize,
+    bench: &mut Bench,
+) -> Result<(), Report> {
+    let base = bench.x[load.n];
+    if load.n == SP && base % 16 != 0 {
+        return Err(report(Answer::Stack, 0));
+    }
+    let mut values = [[0; M]; 4];
+    let values = &mut values[..registers];
+    for (element, value) in (0..).zip(&mut *values) {
+        let read = read::<M>(bench, base.wrapping_add(element * M as u64));
+        let read = read.map_err(|stop| Report {
+            count: element,
+            element,
+            ..stop
+        })?;
+        *value = lane::<M, M, false>(read);
+    }
+    let size = (bench.vl / 8) as usize;
+    for (further, value) in values.iter().enumerate() {
+        let register = (load.t + further) & 31;
+        let (own, rest) = bench.z[register * size..][..size].split_at_mut(load.part);
+        for lane in own.chunks_exact_mut(M) {
+            lane.copy_from_slice(value);
+        }
+        rest.fill(0);
+    }
+    Ok(())
+}
+
+/// Rm = 31 stands for all bytes that were read.
+fn move_base(load: &Load, registers: usize, bench: &mut Bench) {
+    let by = match load.m {
+        31 => (registers as u64) << load.row,
+        m => bench.x[m],
+    };
+    bench.x[load.n] = bench.x[load.n].wrapping_add(by);
 }
 
 type Row = fn(&Load, &Bench, &mut [u8]) -> Result<u64, Report>;
@@ -185,8 +257,7 @@ fn row<const M: usize, const L: usize, const S: bool>(
     let mask = &bench.p[load.g * result.len() / 8..][..result.len() / 8];
     let (own, copies) = result.split_at_mut(load.part);
     let lanes = own.len() / L;
-    let ld1r = matches!(load.form, Form::Ld1r { .. });
-    if !ld1r && !(0..lanes).any(|e| active(mask, e * L)) {
+    if !(0..lanes).any(|e| active(mask, e * L)) {
         return Ok(0);
     }
     if load.n == SP && base % 16 != 0 {
@@ -207,7 +278,7 @@ fn row<const M: usize, const L: usize, const S: bool>(
     }
     let value = lane::<M, L, S>(read::<M>(bench, first)?);
     for (e, lane) in own.chunks_exact_mut(L).enumerate() {
-        if ld1r || active(mask, e * L) {
+        if active(mask, e * L) {
             lane.copy_from_slice(&value);
         }
     }

@@ -1,6 +1,7 @@
-//! The small decisions of document 01, one method each. The methods as they stand are the right
+//! The small decisions of document 01 and of request One, one method each. The methods as they stand are the right
 //! ones; a deliberately wrong variant overrides one of them (`wrong/`).
 
+use crate::decode::Load;
 use crate::machine::{Area, Mask, PAGE};
 
 /// One row of the dtype table: memory size to lane size in bits, and whether the value is
@@ -98,13 +99,39 @@ pub trait Rules: Sync {
         m != 31
     }
 
+    /// Page 004: `selem = UInt(opcode<0>:R) + 1`, so LD1R, LD2R, LD3R and LD4R in this order.
+    fn selem(&self, opcode_0: u32, r: u32) -> u64 {
+        u64::from(opcode_0 << 1 | r) + 1
+    }
+
+    /// "L=0 or S=1 stays undefined", for each number of registers.
+    fn replicate_allowed(&self, _selem: u64, l: u32, s: u32) -> bool {
+        l == 1 && s == 0
+    }
+
+    /// "successive elements go to registers t, t+1 and on, 31 followed by 0": where element s goes.
+    fn destination(&self, t: usize, s: u64, _selem: u64) -> usize {
+        (t + s as usize) % 32
+    }
+
+    /// Page 004: `Mem[address+offs, ebytes]`, where `offs` grows by `ebytes` with each element.
+    fn element_offset(&self, offs: u64, _s: u64, _load: &Load) -> u64 {
+        offs
+    }
+
+    /// "the post-index immediate is the sum of the reads": `offs` as the loop leaves it.
+    fn post_index_immediate(&self, offs: u64, _load: &Load) -> u64 {
+        offs
+    }
+
     /// "SP as base must be a multiple of 16."
     fn sp_aligned(&self, sp: u64) -> bool {
         sp % 16 == 0
     }
 
-    /// "LD1R always checks" SP, with and without write-back.
-    fn ld1r_checks_sp(&self, _wback: bool) -> bool {
+    /// "LD1R always checks" SP, with and without write-back, and so do LD2R to LD4R: page 004 has one
+    /// operation text for all of them.
+    fn ldnr_checks_sp(&self, _load: &Load) -> bool {
         true
     }
 

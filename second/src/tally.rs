@@ -1,57 +1,84 @@
 //! What compared cases were: tables of how many gave which answer.
 
 use crate::cases::Case;
-use crate::decode::Family;
+use crate::decode::{registers, Family};
 use crate::machine::Answer;
 use crate::questions::Kind;
+use crate::rules::Right;
 use crate::telling::{LANES, PLACES};
 use crate::together::lies_together;
 
-/// How many cases of each family (and of none) gave which answer, and how many lay together.
+/// How many cases of each family (and of none) gave which answer, and how many lay together; and the
+/// same for LD1R, LD2R, LD3R and LD4R, which two of the families are made of.
 #[derive(Default)]
 pub struct Tally {
-    rows: [[u64; Answer::ALL.len()]; Family::ALL.len() + 1],
-    together: [u64; Family::ALL.len() + 1],
+    families: [Row; Family::ALL.len() + 1],
+    registers: [Row; 4],
+}
+
+#[derive(Clone, Copy, Default)]
+struct Row {
+    answers: [u64; Answer::ALL.len()],
+    together: u64,
+}
+
+impl Row {
+    fn add(&mut self, answer: u8, together: bool) {
+        self.together += u64::from(together);
+        if let Some(cell) = self.answers.get_mut(usize::from(answer)) {
+            *cell += 1;
+        }
+    }
+
+    fn in_words(&self, name: &str) -> String {
+        let mut text = format!("\n{name:<20}");
+        for cell in self.answers.iter().chain([&self.together]) {
+            text += &format!(" {cell:>12}");
+        }
+        text
+    }
 }
 
 impl Tally {
     /// Counts a step by its answer.
     pub fn add(&mut self, case: &Case, answer: u8) {
-        let row = Family::of(case.word).map_or(Family::ALL.len(), |family| family as usize);
-        self.together[row] += u64::from(lies_together(case));
-        if let Some(cell) = self.rows[row].get_mut(usize::from(answer)) {
-            *cell += 1;
+        let family = Family::of(case.word);
+        let row = family.map_or(Family::ALL.len(), |family| family as usize);
+        let together = lies_together(case);
+        self.families[row].add(answer, together);
+        if family.is_some_and(Family::is_ldnr) {
+            let more = registers(&Right, case.word) - 1;
+            self.registers[more as usize].add(answer, together);
         }
     }
 
     /// A table by family and answer, and how many cases lay together: by family in the last column, of
-    /// all in the line below.
+    /// all in the line below. Then LD1R to LD4R, each in a line of its own.
     pub fn in_words(&self) -> String {
-        let mut text = format!("{:<16}", "answer");
+        let mut text = format!("{:<20}", "answer");
         let answers = Answer::ALL.map(|answer| Answer::name(answer.number()));
         for name in answers.into_iter().chain(["together"]) {
             text += &format!(" {name:>12}");
         }
-        let names = Family::ALL
-            .map(Family::name)
-            .into_iter()
-            .chain(["no family"]);
-        for ((name, row), together) in names.zip(&self.rows).zip(&self.together) {
-            text += &format!("\n{name:<16}");
-            for cell in row.iter().chain([together]) {
-                text += &format!(" {cell:>12}");
-            }
+        let names = Family::ALL.map(Family::name);
+        for (name, row) in names.into_iter().chain(["no family"]).zip(&self.families) {
+            text += &row.in_words(name);
         }
         let together = self.together();
-        let cases: u64 = self.rows.iter().flatten().sum();
+        let answers = self.families.iter().flat_map(|row| &row.answers);
+        let cases: u64 = answers.sum();
         let share = 1000 * together / cases.max(1);
         let (percent, tenth) = (share / 10, share % 10);
-        text + &format!("\n{together} of {cases} cases, {percent}.{tenth} %, lie together\n")
+        text += &format!("\n{together} of {cases} cases, {percent}.{tenth} %, lie together");
+        for (registers, row) in (1..).zip(&self.registers) {
+            text += &row.in_words(&format!("LD{registers}R"));
+        }
+        text + "\n"
     }
 
     /// How many cases lay together.
     pub fn together(&self) -> u64 {
-        self.together.iter().sum()
+        self.families.iter().map(|row| row.together).sum()
     }
 }
 

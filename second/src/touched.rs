@@ -37,7 +37,7 @@ impl PageOf {
 pub fn pages_read(case: &Case, load: &Load) -> Vec<PageOf> {
     let bench = &case.bench;
     let mask = bench.predicate(load.g);
-    let active = |e: &u64| load.family.is_ld1r() || Right.active(mask, *e, load.esize);
+    let active = |e: &u64| load.family.is_ldnr() || Right.active(mask, *e, load.esize);
     let mut pages = Vec::new();
     let mut add = |address| {
         if let Some(page) = PageOf::address(bench, address) {

@@ -74,12 +74,12 @@ pub fn family_of_text(text: &str) -> Option<Family> {
     let (mnemonic, operands) = text.split_once(' ')?;
     let (list, address) = operands.split_once('[')?;
     let list = list.trim_start();
-    if mnemonic == "ld1r" {
+    if ["ld1r", "ld2r", "ld3r", "ld4r"].contains(&mnemonic) {
         let no_offset = address.ends_with(']');
         return list.starts_with("{v").then_some(if no_offset {
-            Family::Ld1rNoOffset
+            Family::LdnrNoOffset
         } else {
-            Family::Ld1rPostIndex
+            Family::LdnrPostIndex
         });
     }
     let one_register =

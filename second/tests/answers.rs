@@ -19,7 +19,7 @@ const FAMILIES: [u32; 9] = [
 ];
 const SP_BASE: u32 = 31 << 5;
 
-fn is_ld1r(word: u32) -> bool {
+fn is_ldnr(word: u32) -> bool {
     word >> 31 == 0
 }
 
@@ -93,15 +93,19 @@ fn every_vector_length_is_judged() {
 fn answer_2_outside() {
     let mut bench = bench(256);
     bench.sve = false;
-    // gather, ldff1, ldnf1, prefetch, ld2r, ld3r, no offset with an Rm
+    // gather, ldff1, ldnf1, prefetch, no offset with an Rm, opcodes 0xx and 10x
     for word in [
         0xC5C0_C000,
         0xA5E1_6000,
         0xA5F0_A000,
         0x85C0_0000,
-        0x4D60_C000,
-        0x4D40_E000,
         0x4D41_C000,
+        0x4D61_C000,
+        0x4D50_E000,
+        0x4D60_4000,
+        0x4DFF_6000,
+        0x4D60_8000,
+        0x4DFF_A000,
     ] {
         assert_plain(2, word, &bench);
     }
@@ -118,6 +122,10 @@ fn answer_3_undefined_before_the_switches() {
         0x4D00_C000,
         0x4DC0_D000,
         0x4D80_C000,
+        0x4D20_C000,
+        0x4D60_D000,
+        0x4D80_E000,
+        0x4DE0_F000,
         0xA5FF_4000,
         0xA59F_0000,
         0xA5BF_0000,
@@ -133,7 +141,7 @@ fn answer_4_switched_off_before_the_stack() {
     for word in FAMILIES {
         let mut off = bench(256);
         off.x[SP] = 8;
-        if is_ld1r(word) {
+        if is_ldnr(word) {
             off.simd = false;
         } else {
             off.sve = false;
@@ -141,8 +149,8 @@ fn answer_4_switched_off_before_the_stack() {
         assert_plain(4, word | SP_BASE, &off);
         // The other switch does not matter
         let mut other = bench(256);
-        other.simd = is_ld1r(word);
-        other.sve = !is_ld1r(word);
+        other.simd = is_ldnr(word);
+        other.sve = !is_ldnr(word);
         ran(word, &other);
     }
 }
@@ -156,7 +164,7 @@ fn answer_5_stack_before_memory() {
             assert_plain(5, word | SP_BASE, &bench);
             p0(&mut bench, &[]);
             let answer = step(word | SP_BASE, &bench).report.answer;
-            assert_eq!(answer, if is_ld1r(word) { 5 } else { 0 });
+            assert_eq!(answer, if is_ldnr(word) { 5 } else { 0 });
         }
         ran(word | SP_BASE, &bench(256));
     }

@@ -16,11 +16,41 @@ fn no_word_fits_two_rows() {
 }
 
 /// A word of each family and more, with its text and its family.
-const TEXTS: [(u32, &str, Family); 16] = [
-    (0x0D40_C000, "ld1r {v0.8b}, [x0]", Family::Ld1rNoOffset),
-    (0x4D40_CFFF, "ld1r {v31.2d}, [sp]", Family::Ld1rNoOffset),
-    (0x0DDF_C000, "ld1r {v0.8b}, [x0], #1", Family::Ld1rPostIndex),
-    (0x4DC7_CBE3, "ld1r {v3.4s}, [sp], x7", Family::Ld1rPostIndex),
+const TEXTS: [(u32, &str, Family); 22] = [
+    (0x0D40_C000, "ld1r {v0.8b}, [x0]", Family::LdnrNoOffset),
+    (0x4D40_CFFF, "ld1r {v31.2d}, [sp]", Family::LdnrNoOffset),
+    (0x0DDF_C000, "ld1r {v0.8b}, [x0], #1", Family::LdnrPostIndex),
+    (0x4DC7_CBE3, "ld1r {v3.4s}, [sp], x7", Family::LdnrPostIndex),
+    (
+        0x4D60_C000,
+        "ld2r {v0.16b, v1.16b}, [x0]",
+        Family::LdnrNoOffset,
+    ),
+    (
+        0x0DFF_CFFF,
+        "ld2r {v31.1d, v0.1d}, [sp], #16",
+        Family::LdnrPostIndex,
+    ),
+    (
+        0x4DDF_EBFD,
+        "ld3r {v29.4s-v31.4s}, [sp], #12",
+        Family::LdnrPostIndex,
+    ),
+    (
+        0x0D40_E41E,
+        "ld3r {v30.4h, v31.4h, v0.4h}, [x0]",
+        Family::LdnrNoOffset,
+    ),
+    (
+        0x4DE7_E000,
+        "ld4r {v0.16b-v3.16b}, [x0], x7",
+        Family::LdnrPostIndex,
+    ),
+    (
+        0x0DFF_E81D,
+        "ld4r {v29.2s, v30.2s, v31.2s, v0.2s}, [x0], #16",
+        Family::LdnrPostIndex,
+    ),
     (0x85C0_E000, "ld1rd {z0.d}, p0/z, [x0]", Family::Ld1rElement),
     (
         0x85FF_E000,
@@ -95,7 +125,8 @@ fn other_texts_are_of_no_family() {
         "ldnt1d {z0.d}, p0/z, [x0]",
         "ld2d {z0.d, z1.d}, p0/z, [x0]",
         "ld1 {v0.16b}, [x0]",
-        "ld2r {v0.16b, v1.16b}, [x0]",
+        "ld2 {v0.16b, v1.16b}, [x0]",
+        "ld2 {v0.b, v1.b}[3], [x0]",
         "ld1d {za0h.d[w12, 0]}, p0/z, [x0]",
         "prfd pldl1keep, p0, [x0]",
         "nop",

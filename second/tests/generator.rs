@@ -4,7 +4,7 @@ mod common;
 
 use common::both;
 use second::cases::Case;
-use second::decode::{decode, Family, Load};
+use second::decode::{decode, registers, Family, Load};
 use second::edges::{edges_of, Edge};
 use second::generate::{case, distance};
 use second::machine::{accepted, Area, Bench};
@@ -255,7 +255,7 @@ fn every_family_meets_every_edge() {
     }
     for family in Family::ALL {
         let [faulted, ran] = &found[family as usize];
-        let single = family.is_ld1r() || family == Family::Ld1rElement;
+        let single = family.is_ldnr() || family == Family::Ld1rElement;
         for (edge, (faulted, ran)) in Edge::ALL.into_iter().zip(faulted.iter().zip(ran)) {
             let name = family.name();
             let together = (edge as usize) <= Edge::AcrossPages as usize;
@@ -290,7 +290,7 @@ fn kind_of_predicate(active: &[bool], consulted: usize) -> usize {
 #[test]
 fn those_together_have_predicates_of_every_kind() {
     let mut found = [[0; 8]; 9];
-    for (case, load) in together().filter(|(_, load)| !load.family.is_ld1r()) {
+    for (case, load) in together().filter(|(_, load)| !load.family.is_ldnr()) {
         let mask = case.bench.predicate(load.g);
         let active: Vec<bool> = (0..case.bench.vl / load.esize)
             .map(|e| Right.active(mask, e, load.esize))
@@ -298,7 +298,7 @@ fn those_together_have_predicates_of_every_kind() {
         let kind = kind_of_predicate(&active, load.lanes(case.bench.vl) as usize);
         found[load.family as usize][kind] += 1;
     }
-    for family in Family::ALL.into_iter().filter(|family| !family.is_ld1r()) {
+    for family in Family::ALL.into_iter().filter(|family| !family.is_ldnr()) {
         let mut least = [200, 50, 80, 30, 30, 20, 20, 100];
         if family.block().is_none() {
             // There is no lane beyond those that are consulted
@@ -341,4 +341,95 @@ fn no_byte_of_the_vector_file_is_zero_before() {
     for (case, _) in together() {
         assert!(!case.bench.z.contains(&0));
     }
+}
+
+/// The words of LD1R to LD4R among the cases, with how many registers each has.
+fn structures() -> impl Iterator<Item = (Case, u64)> {
+    (0..CASES).filter_map(|number| {
+        let case = case(SEED, number);
+        let ldnr = Family::of(case.word).is_some_and(Family::is_ldnr);
+        let registers = registers(&Right, case.word);
+        ldnr.then_some((case, registers))
+    })
+}
+
+#[test]
+fn ld1r_to_ld4r_come_in_equal_parts_with_all_answers() {
+    let mut found = [[0; 8]; 4];
+    for (case, registers) in structures() {
+        found[registers as usize - 1][usize::from(both(&case).report.answer)] += 1;
+    }
+    let all = found.iter().flatten().sum::<u64>();
+    for answers in found {
+        let part = answers.iter().sum::<u64>();
+        assert!(
+            (all * 23 / 100..all * 27 / 100).contains(&part),
+            "{found:?}"
+        );
+        for (answer, least) in [
+            (0, 500),
+            (1, 40),
+            (3, 50),
+            (4, 30),
+            (5, 25),
+            (6, 80),
+            (7, 80),
+        ] {
+            assert!(answers[answer] >= least, "{found:?}");
+        }
+    }
+}
+
+#[test]
+fn each_element_faults_and_each_border_of_registers_is_crossed() {
+    let mut faults = [[[0; 4]; 2]; 4];
+    let mut crossed = [[0; 4]; 4];
+    let mut around = [0; 4];
+    for (case, registers) in structures() {
+        let more = registers as usize - 1;
+        let report = both(&case).report;
+        let t = u64::from(case.word & 31);
+        match report.answer {
+            6 | 7 => {
+                assert_eq!(report.count, report.element);
+                faults[more][usize::from(report.answer - 6)][report.element as usize] += 1;
+            }
+            0 => {
+                assert_eq!(report.count, registers);
+                let stretch = Stretch::of_case(&case).expect("a load");
+                around[more] += u64::from(stretch.end() > 1 << 64);
+                if t + registers > 32 {
+                    crossed[more][(32 - t) as usize] += 1;
+                }
+            }
+            _ => {}
+        }
+    }
+    for more in 0..4 {
+        let few = faults[more].iter().flat_map(|by| &by[..=more]).min();
+        assert!(few.is_some_and(|had| *had >= 5), "{faults:?}");
+        assert!(
+            crossed[more][1..=more].iter().all(|had| *had >= 30),
+            "{crossed:?}"
+        );
+        assert!(around[more] >= 4, "{around:?}");
+    }
+}
+
+#[test]
+fn their_neighbours_stay_outside() {
+    // Bits 20:16 of the row without an offset, opcode 0xx, and opcode 10x
+    let mut found = [0; 3];
+    for number in 0..CASES {
+        let case = case(SEED, number);
+        let word = case.word;
+        if word & 0xBF00_0000 != 0x0D00_0000 || both(&case).report.answer != 2 {
+            continue;
+        }
+        let opcode = word >> 13 & 7;
+        found[0] += u64::from(word >> 23 & 1 == 0 && word >> 16 & 31 != 0 && opcode >= 6);
+        found[1] += u64::from(opcode < 4);
+        found[2] += u64::from(opcode >> 1 == 2);
+    }
+    assert!(found.iter().all(|had| *had >= 15), "{found:?}");
 }

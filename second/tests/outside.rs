@@ -20,7 +20,7 @@ fn every_recorded_step_agrees() {
     for step in [right_step, plain::step] {
         let held = hold(stdin_of("qemu").as_slice(), step).expect("pairs that can be read");
         assert_eq!(held.differences, Vec::<String>::new());
-        assert_eq!((held.agree, held.steps), (355, 355));
+        assert_eq!((held.agree, held.steps), (460, 460));
     }
 }
 
@@ -28,8 +28,8 @@ fn every_recorded_step_agrees() {
 fn every_printed_word_agrees() {
     let judged = judge(stdin_of("binutils").as_slice()).expect("lines of text");
     assert_eq!(judged.disagreements, Vec::<String>::new());
-    assert_eq!((judged.same_family, judged.lines), (38_000, 38_000));
-    assert_eq!((judged.same_text, judged.loads), (7_900, 7_900));
+    assert_eq!((judged.same_family, judged.lines), (39_000, 39_000));
+    assert_eq!((judged.same_text, judged.loads), (8_958, 8_958));
 }
 
 #[test]
@@ -39,8 +39,8 @@ fn a_step_that_differs_is_shown() {
     pairs[last] ^= 1;
     for step in [right_step, plain::step] {
         let held = hold(pairs.as_slice(), step).expect("pairs that can be read");
-        assert_eq!((held.agree, held.steps), (354, 355));
-        assert!(held.differences[0].starts_with("step 354 differs"));
+        assert_eq!((held.agree, held.steps), (459, 460));
+        assert!(held.differences[0].starts_with("step 459 differs"));
         assert!(held.differences[0].contains("pc: here"));
     }
 }

@@ -2,15 +2,16 @@
 
 mod common;
 
-use std::collections::BTreeSet;
+use std::collections::{BTreeMap, BTreeSet};
 use std::sync::OnceLock;
 
 use common::both;
 use second::cases::Case;
-use second::decode::Family;
+use second::decode::{decode, Family};
 use second::edges::{edges_of, Edge};
 use second::machine::{Answer, Area};
 use second::questions::{Kind, Question, Reply};
+use second::rules::Right;
 use second::sample::{
     all_cells, all_window_cells, answers, row, rows, sample, Cell, Sample, CASES, EACH,
 };
@@ -55,7 +56,7 @@ fn the_table_of_answers() {
         assert!(!has(family, Answer::Outside));
         assert!(has(family, Answer::Stack) && has(family, Answer::Ran));
     }
-    assert!(has(Family::Ld1rNoOffset, Answer::Undefined));
+    assert!(has(Family::LdnrNoOffset, Answer::Undefined));
     assert!(has(Family::Ld1roImmediate, Answer::Undefined));
     assert!(!has(Family::Ld1Immediate, Answer::Undefined));
     assert!(!has(Family::Ld1rqImmediate, Answer::Undefined));
@@ -111,10 +112,11 @@ fn every_page_of_both_areas_is_read_and_denied() {
         };
         match report.answer {
             7 => denied.extend(page(report.address)),
-            // A single read that lies together was made in the page of its first byte
-            0 if report.count == 1 && lies_together(&case) => {
+            // All elements that lie together were read, the first of them in the page of its first byte
+            0 if lies_together(&case) => {
+                let load = decode(&Right, case.word, true).expect("a load");
                 let stretch = Stretch::of_case(&case).expect("a load");
-                if stretch.length <= 8 {
+                if report.count * load.msize / 8 == stretch.length {
                     ran.extend(page(stretch.first));
                 }
             }
@@ -194,6 +196,45 @@ fn every_family_lies_together_at_all_its_sizes_and_lengths() {
     assert_eq!(lengths.len(), 7 * 16 + 2 * 15);
 }
 
+/// What a sample has of LD1R to LD4R is counted here from the words alone.
+#[test]
+fn every_number_of_registers_has_its_answers_sizes_and_lengths() {
+    let mut answers = BTreeMap::new();
+    let (mut sizes, mut lengths) = (BTreeSet::new(), BTreeSet::new());
+    let (mut faults, mut wraps) = (BTreeSet::new(), BTreeSet::new());
+    for case in cases_of(sample_1()) {
+        let word = case.word;
+        if !Family::of(word).is_some_and(Family::is_ldnr) {
+            continue;
+        }
+        let registers = 1 + (word >> 21 & 1) + 2 * (word >> 13 & 1);
+        let of = (registers, word >> 23 & 1);
+        let report = both(&case).report;
+        *answers.entry((of, report.answer)).or_insert(0) += 1;
+        match report.answer {
+            0 => {
+                sizes.insert((of, word >> 30, word >> 10 & 3));
+                lengths.insert((of, case.bench.vl));
+                let t = word & 31;
+                if t + registers > 32 {
+                    wraps.insert((of, t));
+                }
+            }
+            6 | 7 => {
+                faults.insert((of, report.answer, report.element));
+            }
+            _ => {}
+        }
+    }
+    // Every answer but "outside", in both rows
+    assert_eq!(answers.len(), 4 * 2 * 7);
+    assert!(answers.values().all(|had| *had >= EACH), "{answers:?}");
+    assert_eq!(sizes.len(), 4 * 2 * 8);
+    assert_eq!(lengths.len(), 4 * 2 * 16);
+    assert_eq!(wraps.len(), (1 + 2 + 3) * 2);
+    assert_eq!(faults.len(), (1 + 2 + 3 + 4) * 2 * 2);
+}
+
 #[test]
 fn every_family_meets_every_edge_of_lying_together() {
     let sample = sample_1();
@@ -255,7 +296,7 @@ fn every_wrong_window_is_told_apart() {
 
 #[test]
 fn every_wrong_variant_is_told_apart() {
-    assert!(VARIANTS.len() >= 112);
+    assert!(VARIANTS.len() >= 156);
     let names: BTreeSet<&str> = VARIANTS.iter().map(|variant| variant.name).collect();
     assert_eq!(names.len(), VARIANTS.len());
     for seed in [1, 7] {

@@ -1,11 +1,14 @@
-//! The deliberately wrong variants about elements that lie together: wrong just where they should be.
+//! The deliberately wrong variants about elements that lie together, and about LD2R to LD4R: wrong just
+//! where they should be.
 
 mod common;
 
 use common::*;
 use second::cases::Case;
+use second::decode::{registers, Family};
 use second::generate::case;
 use second::machine::Bench;
+use second::rules::Right;
 use second::sharp::sharp;
 use second::together::lies_together;
 use second::wrong::{Variant, VARIANTS};
@@ -136,6 +139,50 @@ fn those_about_elements_that_lie_together_are_told_soon() {
                 first.is_some_and(|first| first < within),
                 "{name} {first:?}"
             );
+        }
+    }
+}
+
+/// Those that are wrong about LD2R to LD4R are wrong about nothing else.
+#[test]
+fn what_is_wrong_with_several_registers_is_right_with_one() {
+    let first = "LD2R to LD4R outside, as before request One";
+    let last = "the base told as the bad address";
+    let place = |name: &str| {
+        let mut variants = VARIANTS.iter();
+        variants.position(|variant| variant.name == name)
+    };
+    let (first, last) = (place(first).expect("it is there"), place(last).expect("so"));
+    let variants = &VARIANTS[first..=last];
+    assert_eq!(variants.len(), 43);
+    // What they are wrong about with one register or none: the word or the post-index itself
+    let others = [
+        "opcode 10x taken for 11x",
+        "opcode 01x taken for 11x",
+        "post-index immediate counts registers",
+    ];
+    for number in 0..6_000 {
+        let case = case(22, number);
+        let several =
+            Family::of(case.word).is_some_and(Family::is_ldnr) && registers(&Right, case.word) > 1;
+        let right = both(&case);
+        for variant in variants.iter().filter(|_| !several) {
+            let other = others.contains(&variant.name);
+            let same = other || variant.outcome(&case) == right;
+            assert!(same, "{} {number}", variant.name);
+        }
+    }
+}
+
+#[test]
+fn those_about_several_registers_are_told_soon() {
+    for seed in [1, 2, 3] {
+        let told = sharp(seed, 4_000);
+        let place = |name: &str| told.iter().position(|told| told.name == name);
+        let first = place("LD2R to LD4R outside, as before request One").expect("it is there");
+        for told in &told[first..first + 43] {
+            let by = told.by.as_ref().map(|by| by.number);
+            assert!(by.is_some_and(|by| by < 4_000), "{} {by:?}", told.name);
         }
     }
 }

@@ -1,6 +1,6 @@
 //! What is measured for a row: a bench, and words that end on it as the row says.
 
-use second::decode::Family;
+use second::decode::{Family, Pattern};
 use second::machine::{Area, Bench, PAGE, SCALARS, SP};
 use second::plain;
 use second::rng::Rng;
@@ -144,10 +144,25 @@ fn steps(row: Row, bench: &Bench) -> Result<Vec<Step>, String> {
     Ok(steps)
 }
 
+/// A family's fixed bits. Of LD1R to LD4R it is LD1R that is measured, as before there were the others:
+/// R and the lowest bit of opcode are 0.
+fn pattern(family: Family) -> Pattern {
+    let Pattern { mask, value } = family.pattern();
+    let one_register = if family.is_ldnr() {
+        1 << 21 | 1 << 13
+    } else {
+        0
+    };
+    Pattern {
+        mask: mask | one_register,
+        value,
+    }
+}
+
 /// Words of a family with all fields random, kept if they end as the row says.
 fn words(row: Row, family: Family, bench: &Bench) -> Result<Vec<Step>, String> {
     let mut rng = Rng::new(SEED + 1 + family as u64, bench.vl);
-    let pattern = family.pattern();
+    let pattern = pattern(family);
     let mut tried = bench.clone();
     let mut kept = Vec::new();
     for _ in 0..TRIES {

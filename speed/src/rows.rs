@@ -46,6 +46,9 @@ pub struct Row {
 impl Row {
     pub fn name(self) -> &'static str {
         match self.set {
+            // Of LD1R to LD4R it is LD1R that is measured
+            Set::Family(Family::LdnrNoOffset) => "LD1R no offset",
+            Set::Family(Family::LdnrPostIndex) => "LD1R post-index",
             Set::Family(family) => family.name(),
             Set::Mixed if self.families().len() < Family::ALL.len() => "all but LD1RO",
             Set::Mixed => "all mixed",
@@ -60,8 +63,8 @@ impl Row {
         let fits = |family: &Family| match self.set {
             Set::Family(one) => *family == one,
             Set::Mixed => family.block().is_none_or(|block| block <= self.vl),
-            Set::Active(_) => !family.is_ld1r(),
-            Set::Faults => !family.is_ld1r() && *family != Family::Ld1rElement,
+            Set::Active(_) => !family.is_ldnr(),
+            Set::Faults => !family.is_ldnr() && *family != Family::Ld1rElement,
         };
         Family::ALL.into_iter().filter(fits).collect()
     }

@@ -1,7 +1,7 @@
 //! Base and index registers: a lane of the load is put where something may go wrong.
 
 use crate::decode::{Family, Load};
-use crate::machine::{Bench, PAGE, SP};
+use crate::machine::{Area, Bench, PAGE, SP};
 use crate::rng::Rng;
 
 /// How far element `e` lies from the base, modulo 2^64, with the index register as it is.
@@ -17,13 +17,13 @@ pub fn distance(load: &Load, bench: &Bench, e: u64) -> u64 {
     } else {
         (load.offset as u64).wrapping_mul(unit)
     };
-    let single = load.family.is_ld1r() || load.family == Family::Ld1rElement;
+    let single = load.family == Family::Ld1rElement;
     lead.wrapping_add(if single { 0 } else { e * mbytes })
 }
 
 /// An index: small, negative, such that scaling it wraps, at an end of all numbers, or anything.
 pub fn index(rng: &mut Rng, load: &Load, bench: &mut Bench) {
-    let indexed = load.family.is_scalar() || load.family == Family::Ld1rPostIndex;
+    let indexed = load.family.is_scalar() || load.family == Family::LdnrPostIndex;
     if !indexed || load.m >= SP {
         return;
     }
@@ -42,12 +42,29 @@ pub fn index(rng: &mut Rng, load: &Load, bench: &mut Bench) {
 pub fn base(rng: &mut Rng, load: &Load, bench: &mut Bench) {
     let lanes = load.lanes(bench.vl);
     let lane = match rng.below(10) {
-        0..=4 => 0,
+        // Each element of LD2R to LD4R as often as the others
+        0..=4 if !load.family.is_ldnr() => 0,
         5 => lanes - 1,
         _ => rng.below(lanes),
     };
-    let target = target(rng, load, bench);
+    let target = if load.family.is_ldnr() && rng.percent(60) {
+        behind_the_others(rng, load, bench)
+    } else {
+        target(rng, load, bench)
+    };
     put(load, bench, lane, target);
+}
+
+/// Where an element leaves its area or page, or is just behind it, while those before it lie there: the
+/// fault is its own.
+fn behind_the_others(rng: &mut Rng, load: &Load, bench: &Bench) -> u64 {
+    let area = one_area(rng, bench);
+    let edge = if rng.percent(50) {
+        area.end() as u64
+    } else {
+        page_border(rng, area)
+    };
+    edge.wrapping_sub(rng.below(load.msize / 8))
 }
 
 /// Sets the base so that this lane lies at this address.
@@ -75,14 +92,8 @@ fn own_index(target: u64, mbytes: u64) -> u64 {
 
 /// An address near an edge of an area or a page, well inside an area, or anywhere.
 fn target(rng: &mut Rng, load: &Load, bench: &Bench) -> u64 {
-    let area = match (bench.flash.is_empty(), bench.ram.is_empty()) {
-        (true, _) => &bench.ram,
-        (_, true) => &bench.flash,
-        _ => rng.pick([&bench.flash, &bench.ram]),
-    };
-    // A page border inside the area, if there is one
-    let page = 1 + rng.below(area.pages_begun().saturating_sub(1));
-    let border = area.start.wrapping_add(page * PAGE);
+    let area = one_area(rng, bench);
+    let border = page_border(rng, area);
     let before = before(rng, load.msize / 8);
     match rng.below(17) {
         0..=3 => (area.end() as u64).wrapping_sub(before),
@@ -93,6 +104,21 @@ fn target(rng: &mut Rng, load: &Load, bench: &Bench) -> u64 {
         11 => border.wrapping_sub(rng.below(64)),
         _ => area.start.wrapping_add(rng.below(area.len())),
     }
+}
+
+/// One of the two areas, of which a full one is preferred to an empty one.
+fn one_area<'a>(rng: &mut Rng, bench: &'a Bench) -> &'a Area {
+    match (bench.flash.is_empty(), bench.ram.is_empty()) {
+        (true, _) => &bench.ram,
+        (_, true) => &bench.flash,
+        _ => rng.pick([&bench.flash, &bench.ram]),
+    }
+}
+
+/// A page border inside the area, if there is one.
+fn page_border(rng: &mut Rng, area: &Area) -> u64 {
+    let page = 1 + rng.below(area.pages_begun().saturating_sub(1));
+    area.start.wrapping_add(page * PAGE)
 }
 
 /// How many bytes before an edge an element starts: mostly so that it lies on both sides, else

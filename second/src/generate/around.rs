@@ -245,7 +245,12 @@ fn other(rng: &mut Rng, place: Place) -> Area {
 
 /// How far a stretch slips over the edge that it was laid at: by one byte, or by some.
 fn slip(rng: &mut Rng, load: &Load, place: Place, length: u64) -> u64 {
-    let by = rng.pick([1, 1, 1, load.msize / 8, length / 2, length]);
+    let by = if load.family.is_ldnr() {
+        // So that each element comes to be the bad one
+        1 + rng.below(length)
+    } else {
+        rng.pick([1, 1, 1, load.msize / 8, length / 2, length])
+    };
     match place {
         Place::AreaStart | Place::PageStart => by.wrapping_neg(),
         Place::AreaEnd | Place::PageEnd => by,

@@ -112,7 +112,7 @@ fn registers(rng: &mut Rng, load: &Load, bench: &mut Bench) {
         // PC near the end of the numbers, so that its growth wraps
         bench.x[SCALARS - 1] = 0_u64.wrapping_sub(rng.below(6));
     }
-    if !load.family.is_ld1r() {
+    if !load.family.is_ldnr() {
         predicate::govern(rng, load, bench);
     }
     if rng.percent(70) {

@@ -3,10 +3,11 @@
 use crate::decode::Family;
 use crate::rng::Rng;
 
-/// The lowest bit of the fields Rm, imm6 or imm4, and Rn, and the bits L and S of LD1R.
+/// The lowest bit of the fields Rm, imm6 or imm4, Rn and Rt, and the bits L and S of LD1R to LD4R.
 const RM: u32 = 16;
 const IMM: u32 = 16;
 const RN: u32 = 5;
+const RT: u32 = 0;
 const L: u32 = 1 << 22;
 const S: u32 = 1 << 12;
 
@@ -18,8 +19,8 @@ fn set_register(word: &mut u32, low: u32, number: u32) {
     *word = *word & !(31 << low) | number << low;
 }
 
-/// A word of one of the nine families, all fields random; Rn = 31, Rn = Rm and what makes a word
-/// undefined are more frequent or rarer than chance would have them.
+/// A word of one of the nine families, all fields random, so LD1R to LD4R in equal parts; Rn = 31,
+/// Rn = Rm and what makes a word undefined are more frequent or rarer than chance would have them.
 pub fn of_a_family(rng: &mut Rng) -> u32 {
     let family = rng.pick(Family::ALL);
     let pattern = family.pattern();
@@ -27,7 +28,7 @@ pub fn of_a_family(rng: &mut Rng) -> u32 {
     if rng.percent(22) {
         set_register(&mut word, RN, 31);
     }
-    if family.is_ld1r() {
+    if family.is_ldnr() {
         word = (word | L) & !S;
         if rng.percent(4) {
             word &= !L;
@@ -35,10 +36,14 @@ pub fn of_a_family(rng: &mut Rng) -> u32 {
         if rng.percent(4) {
             word |= S;
         }
+        if rng.percent(40) {
+            // Near the last register, so that 31 is often followed by 0
+            set_register(&mut word, RT, 28 + rng.below(4) as u32);
+        }
     }
-    if family.is_scalar() || family == Family::Ld1rPostIndex {
+    if family.is_scalar() || family == Family::LdnrPostIndex {
         index_register(rng, family, &mut word);
-    } else if !family.is_ld1r() && rng.percent(12) {
+    } else if !family.is_ldnr() && rng.percent(12) {
         immediate_at_an_end(rng, family, &mut word);
     }
     word
@@ -67,8 +72,11 @@ fn index_register(rng: &mut Rng, family: Family, word: &mut u32) {
 
 /// One fixed bit flipped, any bit flipped, some of the fixed bits random, or wholly random.
 pub fn near_miss(rng: &mut Rng, word: u32) -> u32 {
-    let fixed = Family::of(word).map_or(u32::MAX, |family| family.pattern().mask);
+    let family = Family::of(word);
+    let fixed = family.map_or(u32::MAX, |family| family.pattern().mask);
     match rng.below(10) {
+        // Opcodes 10x and 01x, next to those of LD1R to LD4R
+        4 | 5 if family.is_some_and(Family::is_ldnr) => word ^ rng.pick([1 << 14, 1 << 15]),
         0..=4 => {
             let which = rng.below(u64::from(fixed.count_ones())) as usize;
             let bit = (0..32).filter(|bit| fixed >> bit & 1 == 1).nth(which);

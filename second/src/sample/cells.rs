@@ -1,5 +1,6 @@
 //! What the steps of a sample must have.
 
+use super::structures::{all_structures, structures_of, Structure};
 use crate::cases::{Case, Outcome};
 use crate::coverage::{pairs, pairs_of, Pair};
 use crate::decode::{decode, Family, Load};
@@ -52,7 +53,7 @@ pub enum Cell {
     Missed(Edge, bool),
     /// A load that ran with no active lane.
     NoneActive(Family),
-    /// A fault behind lanes that were read.
+    /// A fault behind elements that were read.
     LaterFault(Family),
     /// A load that ran from the stack.
     FromStack(Family),
@@ -69,6 +70,8 @@ pub enum Cell {
         own: usize,
         other: usize,
     },
+    /// Something of LD1R to LD4R by their number of registers.
+    Structure(Structure),
     /// A case that tells the wrong variant of this number from the right interpreter.
     Tells(usize),
 }
@@ -80,6 +83,7 @@ impl Cell {
             Cell::AtLimit | Cell::Refused(Refusal::FlashLimit | Refusal::RamLimit) => 1,
             Cell::Tells(_) | Cell::TogetherAt(..) | Cell::Meets(..) | Cell::Pairwise(_) => 1,
             Cell::PageRan(_) | Cell::PageDenied(_) | Cell::OwnRight { .. } => 1,
+            Cell::Structure(structure) => structure.wanted(),
             _ => EACH,
         }
     }
@@ -99,7 +103,7 @@ pub fn answers(family: Family) -> Vec<Answer> {
 /// The causes of answer 3 that a family can have.
 pub fn causes(family: Family) -> &'static [Cause] {
     match family {
-        Family::Ld1rNoOffset | Family::Ld1rPostIndex => &[Cause::LoadBit, Cause::SBit],
+        Family::LdnrNoOffset | Family::LdnrPostIndex => &[Cause::LoadBit, Cause::SBit],
         Family::Ld1Scalar | Family::Ld1rqScalar => &[Cause::Rm31],
         Family::Ld1roImmediate => &[Cause::F64mm, Cause::ShortVl],
         Family::Ld1roScalar => &[Cause::Rm31, Cause::F64mm, Cause::ShortVl],
@@ -110,7 +114,7 @@ pub fn causes(family: Family) -> &'static [Cause] {
 /// How many rows of sizes a family has.
 pub fn rows(family: Family) -> u32 {
     match family {
-        Family::Ld1rNoOffset | Family::Ld1rPostIndex => 8,
+        Family::LdnrNoOffset | Family::LdnrPostIndex => 8,
         Family::Ld1rElement | Family::Ld1Immediate | Family::Ld1Scalar => 16,
         _ => 4,
     }
@@ -125,6 +129,7 @@ pub fn all_cells() -> Vec<Cell> {
     cells.extend((0..VARIANTS.len()).map(Cell::Tells));
     cells.extend(pairs().into_iter().map(Cell::Pairwise));
     cells.extend(cells_of_pages());
+    cells.extend(all_structures().into_iter().map(Cell::Structure));
     for &edge in Edge::MISSED {
         cells.push(Cell::Missed(edge, true));
         // Elements in two areas can all be read
@@ -146,10 +151,10 @@ pub fn all_cells() -> Vec<Cell> {
         );
         cells.extend((0..rows(family)).map(|row| Cell::Row(family, row)));
         cells.push(Cell::FromStack(family));
-        if !family.is_ld1r() {
+        if !family.is_ldnr() {
             cells.push(Cell::NoneActive(family));
         }
-        if !family.is_ld1r() && family != Family::Ld1rElement {
+        if family != Family::Ld1rElement {
             cells.push(Cell::LaterFault(family));
         }
     }
@@ -207,6 +212,8 @@ pub fn cells_of(case: &Case, outcome: &Outcome) -> Vec<Cell> {
             cells.extend(cells_of_a_read(case, outcome, answer));
         }
     }
+    let structures = structures_of(case, outcome, answer);
+    cells.extend(structures.into_iter().map(Cell::Structure));
     cells
 }
 
@@ -287,7 +294,7 @@ fn cells_of_a_run(case: &Case, load: &Load, count: u64) -> Vec<Cell> {
 /// The row of sizes of a word: dtype, msz, or Q above size.
 pub fn row(word: u32, family: Family) -> u32 {
     match family {
-        Family::Ld1rNoOffset | Family::Ld1rPostIndex => word >> 30 << 2 | word >> 10 & 3,
+        Family::LdnrNoOffset | Family::LdnrPostIndex => word >> 30 << 2 | word >> 10 & 3,
         Family::Ld1rElement => (word >> 23 & 3) << 2 | word >> 13 & 3,
         Family::Ld1Immediate | Family::Ld1Scalar => word >> 21 & 15,
         _ => word >> 23 & 3,
@@ -295,7 +302,7 @@ pub fn row(word: u32, family: Family) -> u32 {
 }
 
 /// The cause of answer 3, if there is one alone.
-fn only_cause(case: &Case, family: Family) -> Option<Cause> {
+pub fn only_cause(case: &Case, family: Family) -> Option<Cause> {
     let applies = |cause: &&Cause| match cause {
         Cause::LoadBit => case.word >> 22 & 1 == 0,
         Cause::SBit => case.word >> 12 & 1 == 1,

@@ -1,6 +1,6 @@
 //! Chooses few and small cases that have every cell often enough.
 
-use std::collections::HashMap;
+use std::collections::{HashMap, HashSet};
 use std::fmt::Debug;
 use std::hash::Hash;
 
@@ -9,6 +9,14 @@ pub struct Candidate {
     pub number: u64,
     pub size: usize,
     pub cells: Vec<u16>,
+}
+
+impl Candidate {
+    /// Whether it has all of these cells; its own are in their order.
+    fn has_all(&self, places: &[u16]) -> bool {
+        let has = |place| self.cells.binary_search(place).is_ok();
+        places.iter().all(has)
+    }
 }
 
 /// How many bytes a case may have for each cell that it brings: cheap ones are taken first.
@@ -66,7 +74,57 @@ impl<C: Copy + Eq + Hash + Debug> Wanted<C> {
         for candidate in left.iter().filter(|candidate| candidate.size >= LARGE) {
             self.exchange(&mut chosen, candidate);
         }
+        let having = self.having(candidates);
+        while self.replace_by_smaller(&mut chosen, &having) {
+            self.drop_what_is_not_needed(&mut chosen);
+        }
         chosen
+    }
+
+    /// For each cell the candidates that have it, the smallest first.
+    fn having<'a>(&self, candidates: &'a [Candidate]) -> Vec<Vec<&'a Candidate>> {
+        let mut having = vec![Vec::new(); self.cells.len()];
+        for candidate in candidates {
+            for place in &candidate.cells {
+                having[usize::from(*place)].push(candidate);
+            }
+        }
+        for candidates in &mut having {
+            candidates.sort_by_key(|candidate| (candidate.size, candidate.number));
+        }
+        having
+    }
+
+    /// Puts a smaller case in the place of each one that is needed for no cell but those which the
+    /// smaller one has too; whether there was any.
+    fn replace_by_smaller<'a>(
+        &self,
+        chosen: &mut Chosen<'a>,
+        having: &[Vec<&'a Candidate>],
+    ) -> bool {
+        let mut taken: HashSet<u64> = chosen.taken.iter().map(|taken| taken.number).collect();
+        let mut any = false;
+        for at in 0..chosen.taken.len() {
+            let own = chosen.taken[at];
+            let needed = |place: &&u16| {
+                chosen.had[usize::from(**place)] <= self.cells[usize::from(**place)].1
+            };
+            let needed: Vec<u16> = own.cells.iter().filter(needed).copied().collect();
+            let rarest = needed
+                .iter()
+                .map(|place| &having[usize::from(*place)])
+                .min_by_key(|candidates| candidates.len());
+            let smaller = rarest.and_then(|candidates| {
+                let mut smaller = candidates.iter().take_while(|other| other.size < own.size);
+                smaller.find(|other| !taken.contains(&other.number) && other.has_all(&needed))
+            });
+            if let Some(smaller) = smaller {
+                taken.insert(smaller.number);
+                chosen.exchange(at, smaller);
+                any = true;
+            }
+        }
+        any
     }
 
     fn lacks(&self, chosen: &Chosen, place: u16) -> bool {
@@ -129,6 +187,17 @@ impl<'a> Chosen<'a> {
         for place in &candidate.cells {
             self.had[usize::from(*place)] += 1;
         }
+    }
+
+    /// Takes a case in the place of one that was taken.
+    fn exchange(&mut self, at: usize, candidate: &'a Candidate) {
+        for place in &self.taken[at].cells {
+            self.had[usize::from(*place)] -= 1;
+        }
+        for place in &candidate.cells {
+            self.had[usize::from(*place)] += 1;
+        }
+        self.taken[at] = candidate;
     }
 
     fn size(&self) -> usize {

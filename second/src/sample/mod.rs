@@ -3,9 +3,11 @@
 
 mod cells;
 mod choose;
+mod structures;
 mod windows;
 
 pub use cells::{all_cells, answers, causes, cells_of, row, rows, Cause, Cell, EACH};
+pub use structures::{all_structures, By, Structure, What};
 pub use windows::{all_cells as all_window_cells, WindowCell};
 
 use crate::cases::{Case, Outcome};
@@ -17,9 +19,9 @@ use crate::wrong::{VARIANTS, WINDOW_VARIANTS};
 use choose::{Candidate, Chosen, Wanted};
 
 /// How many steps a sample has at least.
-pub const CASES: usize = 600;
+pub const CASES: usize = 680;
 /// How many cases of a seed are looked at, and how often as many again if something is missing.
-const STEPS: u64 = 40_000;
+const STEPS: u64 = 200_000;
 const WINDOWS: u64 = 12_000;
 const TURNS: u64 = 6;
 /// A case of at most so many bytes in both files is small.

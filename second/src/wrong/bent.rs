@@ -1,5 +1,6 @@
 //! Variants that override one small rule.
 
+use crate::decode::{Family, Load};
 use crate::machine::{Area, Mask};
 use crate::rules::{Dtype, Right, Rules, DTYPES};
 
@@ -135,8 +136,8 @@ bent! {
     }
 
     PostNoSp:
-    fn ld1r_checks_sp(&self, wback: bool) -> bool {
-        !wback
+    fn ldnr_checks_sp(&self, load: &Load) -> bool {
+        load.family != Family::LdnrPostIndex
     }
 
     WholePredicate:

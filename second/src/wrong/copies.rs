@@ -90,7 +90,7 @@ fn count_times(case: &Case, times: impl FnOnce(&Load) -> Option<u64>) -> Outcome
 
 pub fn ld1r_counts_copies(case: &Case) -> Outcome {
     count_times(case, |load| {
-        load.family.is_ld1r().then(|| load.datasize / load.esize)
+        load.family.is_ldnr().then(|| load.datasize / load.esize)
     })
 }
 

@@ -13,7 +13,7 @@ pub const STACK: u8 = Answer::Stack as u8;
 const NO_MEMORY: u8 = Answer::NoMemory as u8;
 pub const DENIED: u8 = Answer::Denied as u8;
 
-fn faulted(outcome: &Outcome) -> bool {
+pub fn faulted(outcome: &Outcome) -> bool {
     matches!(outcome.report.answer, NO_MEMORY | DENIED)
 }
 
@@ -25,7 +25,7 @@ pub fn with(case: &Case, change: impl FnOnce(&mut Case)) -> Outcome {
 }
 
 /// The right outcome, changed if the word is a load at all.
-fn after(case: &Case, change: impl FnOnce(&Load, &mut Outcome)) -> Outcome {
+pub fn after(case: &Case, change: impl FnOnce(&Load, &mut Outcome)) -> Outcome {
     let mut outcome = case.outcome();
     if let Ok(load) = decode(&Right, case.word, true) {
         change(&load, &mut outcome);
@@ -42,7 +42,8 @@ pub fn after_ran(case: &Case, change: impl FnOnce(&Load, &mut Outcome)) -> Outco
     })
 }
 
-/// The right outcome; if the load ran, the destination's bytes before and after are handed over.
+/// The right outcome; if the load ran, the bytes of its first or only destination before and after are
+/// handed over.
 pub fn destination(case: &Case, change: impl FnOnce(&Load, &[u8], &mut [u8])) -> Outcome {
     after_ran(case, |load, outcome| {
         let size = (case.bench.vl / 8) as usize;
@@ -82,7 +83,7 @@ pub fn each_lane(
 
 pub fn inactive_keeps(case: &Case) -> Outcome {
     destination(case, |load, old, z| {
-        if load.family.is_ld1r() {
+        if load.family.is_ldnr() {
             return;
         }
         let size = (load.esize / 8) as usize;
@@ -98,7 +99,7 @@ pub fn inactive_keeps(case: &Case) -> Outcome {
 /// The outcome with all lanes active, if the SVE load reads at all.
 pub fn all_active(case: &Case) -> Option<Outcome> {
     let load = decode(&Right, case.word, case.bench.f64mm).ok()?;
-    (!load.family.is_ld1r()).then(|| with(case, |case| mask(case, &load).fill(0xFF)))
+    (!load.family.is_ldnr()).then(|| with(case, |case| mask(case, &load).fill(0xFF)))
 }
 
 pub fn fetched_then_masked(case: &Case) -> Outcome {
@@ -118,7 +119,7 @@ pub fn denied_inactive(case: &Case) -> Outcome {
 /// Lane by lane from the last one down.
 pub fn downward(case: &Case) -> Outcome {
     after(case, |load, outcome| {
-        if !faulted(outcome) || load.family.is_ld1r() || load.family == Family::Ld1rElement {
+        if !faulted(outcome) || load.family.is_ldnr() || load.family == Family::Ld1rElement {
             return;
         }
         let lanes = (0..load.lanes(case.bench.vl)).rev();
@@ -141,7 +142,7 @@ pub fn downward(case: &Case) -> Outcome {
 /// What the lanes below the faulting one would hold is already in the register.
 pub fn written_before_fault(case: &Case) -> Outcome {
     after(case, |load, outcome| {
-        if !faulted(outcome) || outcome.report.count == 0 {
+        if !faulted(outcome) || outcome.report.count == 0 || load.family.is_ldnr() {
             return;
         }
         let faulting = outcome.report.element;
@@ -176,7 +177,7 @@ pub fn q0_fills_128(case: &Case) -> Outcome {
 
 pub fn ld1r_keeps_z(case: &Case) -> Outcome {
     destination(case, |load, old, z| {
-        if load.family.is_ld1r() {
+        if load.family.is_ldnr() {
             z[16..].copy_from_slice(&old[16..]);
         }
     })
@@ -220,16 +221,16 @@ pub fn ldnf1(case: &Case) -> Outcome {
 }
 
 pub fn any_rm(case: &Case) -> Outcome {
-    with_word(case, case.word & !(31 << 16), Family::Ld1rNoOffset)
+    with_word(case, case.word & !(31 << 16), Family::LdnrNoOffset)
 }
 
-fn is_ld1r(case: &Case) -> bool {
-    Family::of(case.word).is_some_and(Family::is_ld1r)
+fn is_ldnr(case: &Case) -> bool {
+    Family::of(case.word).is_some_and(Family::is_ldnr)
 }
 
 pub fn s_tolerated(case: &Case) -> Outcome {
     with(case, |case| {
-        if is_ld1r(case) {
+        if is_ldnr(case) {
             case.word &= !(1 << 12);
         }
     })
@@ -237,7 +238,7 @@ pub fn s_tolerated(case: &Case) -> Outcome {
 
 pub fn l_tolerated(case: &Case) -> Outcome {
     with(case, |case| {
-        if is_ld1r(case) {
+        if is_ldnr(case) {
             case.word |= 1 << 22;
         }
     })
@@ -249,7 +250,7 @@ pub fn f64mm_not_asked(case: &Case) -> Outcome {
 
 pub fn ld1r_asks_sve(case: &Case) -> Outcome {
     with(case, |case| {
-        if is_ld1r(case) {
+        if is_ldnr(case) {
             case.bench.simd = case.bench.sve;
         }
     })
@@ -270,7 +271,7 @@ pub fn short_vl_first(case: &Case) -> Outcome {
 
 pub fn switch_first(case: &Case) -> Outcome {
     let mut outcome = case.outcome();
-    let on = if is_ld1r(case) {
+    let on = if is_ldnr(case) {
         case.bench.simd
     } else {
         case.bench.sve
@@ -352,10 +353,10 @@ pub fn first_address(case: &Case) -> Outcome {
 }
 
 /// The right outcome with another post-index: the sum of base and this.
-fn post_index(case: &Case, offs: impl FnOnce(&Load, u64) -> Option<u64>) -> Outcome {
+pub fn post_index(case: &Case, offs: impl FnOnce(&Load, u64) -> Option<u64>) -> Outcome {
     after_ran(case, |load, outcome| {
         let base = case.bench.x[load.n];
-        if load.family == Family::Ld1rPostIndex {
+        if load.family == Family::LdnrPostIndex {
             if let Some(offs) = offs(load, base) {
                 outcome.x[load.n] = base.wrapping_add(offs);
             }
@@ -372,17 +373,21 @@ pub fn rm31_adds_nothing(case: &Case) -> Outcome {
 }
 
 pub fn rm_after(case: &Case) -> Outcome {
-    let after = |load: &Load, base: u64| base.wrapping_add(load.esize / 8);
     post_index(case, |load, base| {
-        (load.m == load.n && load.m != 31).then(|| after(load, base))
+        (load.m == load.n && load.m != 31).then(|| base.wrapping_add(sum_of_reads(load)))
     })
+}
+
+/// What a post-index with Rm = 31 adds.
+fn sum_of_reads(load: &Load) -> u64 {
+    load.selem * load.esize / 8
 }
 
 pub fn base_after_fault(case: &Case) -> Outcome {
     after(case, |load, outcome| {
-        if faulted(outcome) && load.family == Family::Ld1rPostIndex {
+        if faulted(outcome) && load.family == Family::LdnrPostIndex {
             let offs = match load.m {
-                31 => load.esize / 8,
+                31 => sum_of_reads(load),
                 m => case.bench.x[m],
             };
             outcome.x[load.n] = outcome.x[load.n].wrapping_add(offs);

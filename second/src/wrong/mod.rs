@@ -1,13 +1,16 @@
 //! Deliberately wrong interpreters. A set of cases is worth something if it tells each of them
 //! from the right one. A variant bends one small rule (`bent.rs`), or does something of its own
 //! with the right interpreter's help (`instead.rs`), for example with the copies of a block
-//! (`copies.rs`), with the rights of pages (`pages.rs`) or where all elements lie together (`stretch.rs`). `windows.rs` has the wrong windows.
+//! (`copies.rs`), with the registers of LD2R to LD4R (`structures.rs`), with the rights of pages
+//! (`pages.rs`) or where all elements lie together (`stretch.rs`). `windows.rs` has the wrong windows.
 
+#[macro_use]
 mod bent;
 mod copies;
 mod instead;
 mod pages;
 mod stretch;
+mod structures;
 mod windows;
 
 pub use windows::{WindowVariant, WINDOW_VARIANTS};
@@ -240,6 +243,122 @@ pub const VARIANTS: &[Variant] = &[
     instead("PC + 0", instead::pc_stays),
     instead("PC stops at 2^64", instead::pc_stops),
     instead("PC grows after a fault", instead::pc_after_fault),
+    // LD2R, LD3R and LD4R: the word
+    instead(
+        "LD2R to LD4R outside, as before request One",
+        structures::outside_as_before,
+    ),
+    instead(
+        "LD2R to LD4R with L=0 or S=1 outside",
+        structures::undefined_is_outside,
+    ),
+    bent("LD2R to LD4R with L=0 tolerated", &structures::LDefined),
+    bent("LD2R to LD4R with S=1 tolerated", &structures::SDefined),
+    bent("R ignored: LD2R as LD1R", &structures::RIgnored),
+    bent(
+        "opcode<0> ignored: LD3R as LD1R",
+        &structures::OpcodeIgnored,
+    ),
+    bent(
+        "R:opcode<0> read: LD2R as LD3R",
+        &structures::OpcodeAndRSwapped,
+    ),
+    instead("opcode 10x taken for 11x", structures::opcode_10x),
+    instead("opcode 01x taken for 11x", structures::opcode_01x),
+    instead(
+        "LD2R to LD4R ask the SVE switch too",
+        structures::asks_sve_too,
+    ),
+    bent("LD2R to LD4R without the SP check", &structures::LaterNoSp),
+    // Their elements
+    bent("elements 8 bytes apart", &structures::EightApart),
+    bent(
+        "elements as far apart as registers are filled",
+        &structures::RegistersApart,
+    ),
+    bent("all elements at one address", &structures::OneAddress),
+    instead("as LD1R with post-index in turn", structures::one_by_one),
+    instead("elements looked at downward", structures::downward),
+    instead(
+        "no memory at any element told before denied",
+        structures::no_memory_first,
+    ),
+    // Their registers
+    bent("order of registers reversed", &structures::OrderReversed),
+    bent(
+        "nothing written behind register 31",
+        &structures::NothingAfter31,
+    ),
+    bent("register 31 followed by itself", &structures::StaysAt31),
+    bent("register 30 followed by 0", &structures::ZeroAfter30),
+    bent("register 32 followed by 0", &structures::ZeroAfter32),
+    instead(
+        "every register takes the first element",
+        structures::all_take_first,
+    ),
+    instead(
+        "every register takes the last element",
+        structures::all_take_last,
+    ),
+    instead(
+        "all elements in turn in every register",
+        structures::structure_repeated,
+    ),
+    instead(
+        "only the first register written",
+        structures::only_first_written,
+    ),
+    instead(
+        "the last register not written",
+        structures::last_not_written,
+    ),
+    instead(
+        "Q=0 keeps the upper part of later registers",
+        structures::later_q0_keeps_upper,
+    ),
+    instead(
+        "Q=0 fills 128 bits of later registers",
+        structures::later_q0_fills_128,
+    ),
+    instead(
+        "later registers keep what is above 128 bits",
+        structures::later_keep_z,
+    ),
+    instead(
+        "registers before a fault are written",
+        structures::written_before_fault,
+    ),
+    instead(
+        "all registers zero after a fault",
+        structures::cleared_before_fault,
+    ),
+    // Their base and PC, and what they answer
+    bent("post-index immediate of one read", &structures::ByOneRead),
+    bent(
+        "post-index immediate of one read fewer",
+        &structures::ByOneReadFewer,
+    ),
+    bent(
+        "post-index immediate counts registers",
+        &structures::ByRegisters,
+    ),
+    bent(
+        "post-index immediate of whole registers",
+        &structures::ByWholeRegisters,
+    ),
+    instead("Xm added for each register", structures::xm_for_each),
+    instead("PC + 4 for each register", structures::pc_for_each),
+    instead("LD2R to LD4R count 1", structures::counts_one),
+    instead(
+        "element of a fault always 0",
+        structures::fault_at_element_0,
+    ),
+    instead("count of a fault always 0", structures::fault_counts_none),
+    instead(
+        "the register told as the faulting element",
+        structures::register_told,
+    ),
+    instead("the base told as the bad address", structures::base_told),
     // Whether all elements lie together
     instead(
         "the right of the first page alone is asked",

@@ -88,20 +88,26 @@ pub fn step(word: u32, bench: &Bench) -> Outcome {
 /// Executes a word that must run; checks PC and that only register t changed, gives its bytes
 /// and the count.
 pub fn ran(word: u32, bench: &Bench) -> (Vec<u8>, u64) {
+    let (mut z, count) = ran_to(word, bench, &[(word & 31) as usize]);
+    (z.remove(0), count)
+}
+
+/// The same of a load of several registers: only these changed, and their bytes are given in this order.
+pub fn ran_to(word: u32, bench: &Bench, registers: &[usize]) -> (Vec<Vec<u8>>, u64) {
     let outcome = step(word, bench);
     assert_eq!(outcome.report.answer, 0, "{word:08x} should run");
     assert_eq!(outcome.report.element, 0);
     assert_eq!(outcome.report.address, 0);
     assert_eq!(outcome.x[PC], bench.x[PC].wrapping_add(4));
     let size = (bench.vl / 8) as usize;
-    let t = (word & 31) as usize;
+    let bytes = |t: &usize| t * size..(t + 1) * size;
     let mut others = outcome.z.clone();
-    others[t * size..(t + 1) * size].copy_from_slice(&bench.z[t * size..(t + 1) * size]);
+    for t in registers {
+        others[bytes(t)].copy_from_slice(&bench.z[bytes(t)]);
+    }
     assert_eq!(others, bench.z, "no other vector register changes");
-    (
-        outcome.z[t * size..(t + 1) * size].to_vec(),
-        outcome.report.count,
-    )
+    let z = registers.iter().map(|t| outcome.z[bytes(t)].to_vec());
+    (z.collect(), outcome.report.count)
 }
 
 /// The answer's number, with count, element and address.
