@@ -25,18 +25,18 @@ use lib.ListN.{length, take, drop}
 pub above : (s t : Size) → 2 ^ (8 * bytesOf t) - 1 - (2 ^ (8 * bytesOf s) - 1) ≡ 2 ^ (8 * bytesOf t) - 2 ^ (8 * bytesOf s)
 above s t = omega (arith, pow-pos (8 * bytesOf s))
 
-module _ (answer : ℕ → Reading) (p : Plan) (pred : List ℕ) where
-  -- byte j of lane l is what the definition has at its place in the register
-  lane-byte : (l v j : ℕ) → v ≡ wrap (laneValue answer p pred l) → j < bytesOf (p .lane)
-      → v / 256 ^ j % 256 ≡ registerByte answer p pred (l * bytesOf (p .lane) + j)
+module _ (answer : ℕ → Reading) (p : Plan) (pred : List ℕ) (d : ℕ) where
+  -- of destination d, byte j of lane l is what the definition has at its place in the register
+  lane-byte : (l v j : ℕ) → v ≡ wrap (laneValue answer p pred d l) → j < bytesOf (p .lane)
+      → v / 256 ^ j % 256 ≡ registerByte answer p pred d (l * bytesOf (p .lane) + j)
   unfolding registerByte
-  lane-byte l v j e h = rw (e, digits-div l h, digits-mod l h) (digit-mod (laneValue answer p pred l) 8 j (omega (arith, bytes-few (p .lane))))
+  lane-byte l v j e h = rw (e, digits-div l h, digits-mod l h) (digit-mod (laneValue answer p pred d l) 8 j (omega (arith, bytes-few (p .lane))))
 
   -- lane l, of w bytes, is put in after the lanes before it
-  pub lane-filled : {w n l : ℕ} {xs : List ℕ} → w ≡ bytesOf (p .lane) → Filled (registerByte answer p pred) w n xs l → l * w + w ≤ n
-      → (v : ℕ) → v ≡ wrap (laneValue answer p pred l) → (ys : List ℕ)
+  pub lane-filled : {w n l : ℕ} {xs : List ℕ} → w ≡ bytesOf (p .lane) → Filled (registerByte answer p pred d) w n xs l → l * w + w ≤ n
+      → (v : ℕ) → v ≡ wrap (laneValue answer p pred d l) → (ys : List ℕ)
       → ys ≡ listed (λ k. v / 256 ^ k % 256) 0 (length (take (l * w + w - l * w) (drop (l * w) xs)))
-      → Filled (registerByte answer p pred) w n (take (l * w) xs ++ (ys ++ drop (l * w + w - l * w) (drop (l * w) xs))) (l + 1)
+      → Filled (registerByte answer p pred d) w n (take (l * w) xs ++ (ys ++ drop (l * w + w - l * w) (drop (l * w) xs))) (l + 1)
   lane-filled {w} {n} {l} {xs} wide s fits v e ys h =
       digits-filled s v fits
       (λ j k.

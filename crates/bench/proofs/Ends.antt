@@ -1,18 +1,15 @@
 -- How an accepted set-up ends, from what the functions of the step found: at the stack rule, at a bad byte, or with the load done.
 use mathlib.Core.Path.{_≡_, refl, sym, ap, _∙_}
 use mathlib.Core.Bool.{Bool, true, false, _&&_}
-use mathlib.Core.List.{List, _++_}
-use mathlib.Core.Logic.{⊎-elim}
-use Prim.Native.Nat.{ℕ, _+_, _-_, _*_, _/_, _≤_}
+use mathlib.Core.List.{List}
+use Prim.Native.Nat.{ℕ, _*_, _/_, _≤_}
 use native.Mathlib.Omega.{arith}
 use borrow.Author.Tests.{eq-eqb, ne-eqb}
 use lib.Dec.{eqb}
-use lib.ListN.{length, take, drop, length-take, length-drop, take-append-drop}
+use lib.ListN.{length, length-take, length-drop}
 use Rattle.ground.specs.Choices.{if_then_else_}
-use Rattle.ground.proofs.Fills.{back-in, part-length}
-use Rattle.ground.proofs.Laws.{true-or-false, never}
+use Rattle.ground.proofs.Laws.{never}
 use Rattle.memory.specs.Areas.{areAreasAccepted}
-use Rattle.memory.specs.declared.Reading.{Reading}
 use Rattle.steps.specs.Benches.{Lent, Bench, InTypes, areasIn, areFilesAccepted, isAccepted}
 use Rattle.steps.specs.Answers.{numberOf, reportOf}
 use Rattle.steps.specs.Lanes.{predicateOf, governingBytes}
@@ -36,7 +33,7 @@ use Rattle.plans.proofs.Prepares.{allowed-planned}
 use Rattle.bench.specs.Lends.{benchOf}
 use Rattle.bench.specs.Inside.{stacked, EndsAs}
 use Rattle.bench.specs.Inside.Quick.{isAlways}
-use Rattle.bench.specs.Inside.Roads.{Loaded, Targeted}
+use Rattle.bench.specs.Inside.Roads.{Targeted}
 use Rattle.bench.proofs.Small.{slot}
 
 -- where the rule asks bits, a predicate decides over a register of n bytes
@@ -50,23 +47,7 @@ module _ (n k : ℕ) (file : List ℕ) (whole : length file ≡ 16 * k) (few : n
   decided LaneBit g h a = governs g h
   decided ElementBit g h a = governs g h
 
--- a load into a register, in the vector file that the register is lent out of
-pub target-loaded : (answer : ℕ → Reading) (p : Plan) (pred z : List ℕ) (n : ℕ) → p .target * n + n ≤ length z → {ys : List ℕ} {r : StepResult}
-    → (let a = p .target * n in Loaded answer p pred (take (a + n - a) (drop a z)) r ys
-    → Targeted answer p pred n z r (take a z ++ (ys ++ drop (a + n - a) (drop a z))))
-target-loaded answer p pred z n fits {ys} {r} s =
-    record {
-      report = s .report;
-      vectors = ⊎-elim
-          (λ t. rw t (back-in z ys _ a n (rw (t, part-length z a n fits) at (s .register))))
-          (λ t. let kept = rw t at (s .register) in rw (t, kept, take-append-drop, take-append-drop))
-          (true-or-false (eqb (numberOf (r .answer)) 0));
-    }
-  where
-    a : ℕ
-    a = p .target * n
-
--- a plan, from what was found of that part
+-- a plan, from what its load left
 module _ (l : Lent) (b : Bench) (p : Plan) (pred : List ℕ) (e : pred ≡ governingBytes l p) where
   pub at-stack : stackFails (b .scalars) p pred ≡ true → (r : StepResult) → r ≡ record { count = 0; answer = Stack } → EndsAs (stacked p) l b r b
   unfolding EndsAs stacked

@@ -3,7 +3,7 @@ use mathlib.Core.Path.{_≡_, sym, ap, _∙_}
 use mathlib.Core.Bool.{true}
 use mathlib.Core.List.{List}
 use mathlib.Core.Logic.{⊎-elim}
-use Prim.Native.Nat.{ℕ, _/_, _%_, _<_, zero-le}
+use Prim.Native.Nat.{ℕ, _/_, _<_, zero-le}
 use native.Mathlib.Nat.{zero-add, zero-div}
 use native.Mathlib.Omega.{arith}
 use lib.Dec.{ltb}
@@ -13,7 +13,7 @@ use Rattle.ground.proofs.Fills.{is-listed}
 use Rattle.ground.proofs.Laws.{never, off, any-of}
 use Rattle.memory.specs.declared.Reading.{Reading}
 use Rattle.steps.specs.Answers.{Report}
-use Rattle.steps.specs.Lanes.{wanted, asked, laneTakes}
+use Rattle.steps.specs.Lanes.{wanted, asked, laneTakes, laneElement, destinationsIn}
 use Rattle.steps.specs.Outcomes.{surveyOf, laneValue, registerByte, registerOf}
 use Rattle.steps.specs.declared.Plan.{Plan}
 use Rattle.steps.proofs.Depends.{takes-wanted}
@@ -37,12 +37,12 @@ module _ (answer : ℕ → Reading) (p : Plan) (pred : List ℕ) (some : 0 < p .
   none-wanted : (e : ℕ) → e < p .elements → wanted p pred e ≡ true → ⊥
   none-wanted e h t = never (any-of (wanted p pred) (p .elements) e h t) (sym (any-many (wanted p pred) (p .elements)) ∙ ap (ltb 0) none-many)
 
-  none-lane : (l : ℕ) → laneValue answer p pred l ≡ 0
+  none-lane : (j l : ℕ) → j < destinationsIn p → laneValue answer p pred j l ≡ 0
   unfolding laneValue
-  none-lane l = rw (off (laneTakes p pred l) (λ t. let w = takes-wanted answer answer p pred some l t in none-wanted (l % p .elements) (w .0) (w .1)))
+  none-lane j l h = rw (off (laneTakes p pred l) (λ t. let w = takes-wanted answer answer p pred some j l h t in none-wanted (laneElement p j l) (w .0) (w .1)))
 
-  -- zeros over a whole register
-  pub nothing-read : {dst dst′ : List ℕ} → Zeroed dst dst′ 0 → dst′ ≡ registerOf answer p pred (length dst)
+  -- zeros over a whole destination
+  pub nothing-read : (j : ℕ) → j < destinationsIn p → {dst dst′ : List ℕ} → Zeroed dst dst′ 0 → dst′ ≡ registerOf answer p pred j (length dst)
   unfolding registerOf registerByte
-  nothing-read {dst} {dst′} z =
-      is-listed _ dst′ (length dst) (z .long) (λ i h. z .zero i zero-le h ∙ sym (rw (none-lane (i / bytesOf (p .lane)), zero-div)))
+  nothing-read j there {dst} {dst′} z =
+      is-listed _ dst′ (length dst) (z .long) (λ i h. z .zero i zero-le h ∙ sym (rw (none-lane j (i / bytesOf (p .lane)) there, zero-div)))

@@ -1,4 +1,4 @@
--- A register that is filled from a stretch: its own lanes, their copies, and zeros are the definition's register, and the lanes that are on
+-- The one destination of a load with a predicate, filled from a stretch: its own lanes, their copies, and zeros are the definition's register, and the lanes that are on
 -- tell the count of reads.
 use mathlib.Core.Path.{_≡_, refl, sym, ap, _∙_}
 use mathlib.Core.Bool.{Bool, true, false}
@@ -22,7 +22,7 @@ use Rattle.steps.specs.Lanes.{bitOf, laneTakes}
 use Rattle.steps.specs.Outcomes.{extended, laneValue, registerByte, registerOf}
 use Rattle.steps.specs.declared.Plan.{Plan}
 use Rattle.bench.specs.Inside.{Zeroed}
-use Rattle.bench.specs.Inside.Quick.{answersFrom, laneFrom, byteFrom, Copied, strideOf, decidingBits, countOf, ownIn, FillIn, OwnOut, FillOut}
+use Rattle.bench.specs.Inside.Quick.{answersFrom, laneFrom, byteFrom, Copied, strideOf, countOf, ownIn, FillIn, OwnOut, FillOut}
 use Rattle.bench.proofs.Digits.{widens}
 use Rattle.bench.proofs.Own.{LanesFromStretch, tells, same-bytes}
 
@@ -44,12 +44,12 @@ module _ (p : Plan) (pred s : List ℕ) (narrower : bytesOf (p .size) ≤ bytesO
 
   -- its own lanes
   own-byte : (i : ℕ) → i < k * lane
-      → byteFrom s 0 (decidingBits (p .rule) pred) (strideOf (p .rule) (bytesOf (p .size))) (p .signed)
-      (bytesOf (p .size)) lane i ≡ registerByte answer p pred i
+      → byteFrom s 0 pred (strideOf (p .rule) (bytesOf (p .size))) (p .signed)
+      (bytesOf (p .size)) lane i ≡ registerByte answer p pred 0 i
   unfolding byteFrom laneFrom registerByte laneValue answersFrom
   own-byte i h =
       let few : i / lane < k = div-lt-iff-lt-mul (bytes-some (p .lane)) .1 h in
-      rw (t .bit (i / lane) few, t .element (i / lane) few, zero-add) (go (bitOf (decidingBits (p .rule) pred) (i / lane * lane)))
+      rw (t .bit (i / lane) few, t .element (i / lane) few, zero-add) (go (bitOf pred (i / lane * lane)))
     where
       v : ℕ
       v = bytesAt s (i / lane * strideOf (p .rule) (bytesOf (p .size))) (bytesOf (p .size))
@@ -60,7 +60,7 @@ module _ (p : Plan) (pred s : List ℕ) (narrower : bytesOf (p .size) ≤ bytesO
       go false = refl
 
   -- .. again
-  byte-again : (i : ℕ) → i < p .filled * lane → registerByte answer p pred (i % (k * lane)) ≡ registerByte answer p pred i
+  byte-again : (i : ℕ) → i < p .filled * lane → registerByte answer p pred 0 (i % (k * lane)) ≡ registerByte answer p pred 0 i
   unfolding registerByte
   byte-again i h =
       rw (
@@ -70,19 +70,19 @@ module _ (p : Plan) (pred s : List ℕ) (narrower : bytesOf (p .size) ≤ bytesO
       )
 
   -- .. and zeros above
-  beyond : (i : ℕ) → p .filled * lane ≤ i → registerByte answer p pred i ≡ 0
+  beyond : (i : ℕ) → p .filled * lane ≤ i → registerByte answer p pred 0 i ≡ 0
   unfolding registerByte laneValue laneTakes
   beyond i h = rw (le-ltb (i / lane) (p .filled) (le-div-iff-mul-le (bytes-some (p .lane)) .1 h), zero-div)
 
   module _ {n : ℕ} {dst dst′ dst″ : List ℕ}
-      (own : Filled (byteFrom s 0 (decidingBits (p .rule) pred) (strideOf (p .rule) (bytesOf (p .size))) (p .signed) (bytesOf (p .size)) lane) lane n dst k)
+      (own : Filled (byteFrom s 0 pred (strideOf (p .rule) (bytesOf (p .size))) (p .signed) (bytesOf (p .size)) lane) lane n dst k)
       (copied : Copied dst dst′ (k * lane) (p .filled * lane)) (zeroed : Zeroed dst′ dst″ (p .filled * lane)) where
-    below : (i : ℕ) → i < p .filled * lane → getD dst′ i 0 ≡ registerByte answer p pred i
+    below : (i : ℕ) → i < p .filled * lane → getD dst′ i 0 ≡ registerByte answer p pred 0 i
     below i h =
         let inside : i % (k * lane) < k * lane = mod-lt i (mul-pos (t .some) (bytes-some (p .lane))) in
         copied .copied i h ∙ own .so-far (i % (k * lane)) inside ∙ own-byte (i % (k * lane)) inside ∙ byte-again i h
 
-    pub whole-register : dst″ ≡ registerOf answer p pred n
+    pub whole-register : dst″ ≡ registerOf answer p pred 0 n
     unfolding registerOf
     whole-register =
         let long : length dst′ ≡ n = copied .long ∙ own .size in

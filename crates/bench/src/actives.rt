@@ -6,7 +6,7 @@ ghost use mathlib.Core.Path.{_≡_};
 ghost use Prim.Native.Nat.{_*_, _≤_};
 ghost use lib.ListN.{length};
 ghost use Rattle.ground.specs.Lists.{anyBelow};
-ghost use Rattle.steps.specs.Lanes.{predicateOf, bitOf, isActive, wanted, mayTakeBy, laneTakes, checksStack};
+ghost use Rattle.steps.specs.Lanes.{predicateOf, bitOf, isActive, wanted, mayTakeBy, laneTakes, checksStack, laneElement};
 ghost use Rattle.steps.specs.Inside.{PlanInRange};
 ghost use Rattle.steps.specs.Step.{stackFails};
 
@@ -76,7 +76,7 @@ pub(crate) fn asks(plan: Plan, pred: &[u8], e: u64) -> bool
     }
 }
 
-// Whether the SP check is made: for LD1R always, else where one of the lanes that it consults is active.
+// Whether the SP check is made: for LD1R to LD4R always, else where one of the lanes that it consults is active.
 fn checks_stack(plan: Plan, pred: &[u8]) -> bool
     requires { ⌜ PlanInRange plan ⌝ }
     ensures { λ r. ⌜ r ≡ checksStack plan (now (pred .entry)) ⌝ }
@@ -115,6 +115,19 @@ fn may_take(plan: Plan, pred: &[u8], l: u64) -> bool
         Rule::Always => true,
         Rule::LaneBit => lane_active(plan, pred, l),
         Rule::ElementBit => lane_active(plan, pred, l % plan.elements),
+    }
+}
+
+// The element of lane l of destination j.
+pub(crate) fn lane_element(plan: Plan, j: u64, l: u64) -> u64
+    requires { ⌜ PlanInRange plan ⌝ }
+    ensures { λ r. ⌜ r ≡ laneElement plan j l ⌝ }
+{
+    let rule = plan.rule;
+    match rule {
+        Rule::Always => j,
+        Rule::LaneBit => 0,
+        Rule::ElementBit => l % plan.elements,
     }
 }
 

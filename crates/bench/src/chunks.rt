@@ -1,18 +1,21 @@
 // Lanes that are filled from a stretch of memory, chunk by chunk. A chunk is eight bytes of a register; one byte of the predicate says which of
-// its lanes are filled, and 255 stands for it in LD1R, which has no predicate. The quick road fetches bytes of memory in `whole` alone, which `lane_from`
-// alone calls, for a lane that is on: no byte of an inactive lane is fetched.
+// its lanes are filled; LD1R to LD4R, which have no predicate, fill every lane of a chunk with one element. The quick road fetches bytes of memory in `whole`
+// alone, which `lane_from` calls, for a lane that is on, and `spread`: no byte of an inactive lane is fetched.
 use crate::actives;
 use crate::fills;
+use ground::Size;
 ghost use mathlib.Core.Path.{_≡_};
 ghost use mathlib.Core.Bool.{false};
 ghost use mathlib.Core.List.{[], _∷_};
-ghost use Prim.Native.Nat.{_+_, _*_, _/_, _≤_, _<_};
+ghost use Prim.Native.Nat.{_+_, _*_, _/_, _%_, _^_, _≤_, _<_};
 ghost use lib.ListN.{length};
 ghost use Rattle.ground.specs.Choices.{if_then_else_};
 ghost use Rattle.ground.specs.Lists.{bytesAt};
 ghost use Rattle.memory.specs.Addresses.{wrap};
 ghost use Rattle.steps.specs.Outcomes.{extended};
-ghost use Rattle.bench.specs.Inside.Quick.{LanesIn, LanesOut};
+ghost use Rattle.bench.specs.Inside.Quick.{LanesIn, LanesOut, Spread};
+ghost use Rattle.ground.proofs.Fills.{Filled};
+ghost use Rattle.ground.specs.Sizes.{bytesOf};
 
 // The number that n bytes make from a place on: `ground::number` without its tests, since all of them are there.
 fn whole(s: &[u8], at: usize, n: usize) -> u64
@@ -167,16 +170,26 @@ pub(crate) fn sized(
     }
 }
 
-// A chunk of LD1R, in which every lane is on and takes the one element; with a call for each size, as above.
-pub(crate) fn replicated(dst: &mut [u8], stretch: &[u8], size: usize) -> u64
-    requires { ⌜ (length (now dst) ≡ 8) × LanesIn (now stretch) 0 0 (8 / size) size size 8 ⌝ }
-    ensures { λ r. ⌜ LanesOut (now (stretch .entry)) 0 (255 ∷ []) 0 false size size 8 (now (dst .exit)) r (8 / size) ⌝ }
+// A chunk of LD1R to LD4R as a number: the element at a place, over and over.
+pub(crate) fn spread(stretch: &[u8], from: usize, size: Size) -> u64
+    requires { ⌜ from + bytesOf size ≤ length (now stretch) ⌝ }
+    ensures { λ r. ⌜ Spread (bytesAt (now (stretch .entry)) from (bytesOf size)) (bytesOf size) r ⌝ }
 {
     match size {
-        1 => chunk(dst, stretch, 0, 255, 0, false, 1, 1),
-        2 => chunk(dst, stretch, 0, 255, 0, false, 2, 2),
-        4 => chunk(dst, stretch, 0, 255, 0, false, 4, 4),
-        8 => chunk(dst, stretch, 0, 255, 0, false, 8, 8),
-        _ => chunk(dst, stretch, 0, 255, 0, false, size, size),
+        Size::B8 => whole(stretch, from, 1) % 0x100 * 0x0101_0101_0101_0101,
+        Size::B16 => whole(stretch, from, 2) % 0x1_0000 * 0x0001_0001_0001_0001,
+        Size::B32 => whole(stretch, from, 4) % 0x1_0000_0000 * 0x0000_0001_0000_0001,
+        Size::B64 => whole(stretch, from, 8),
+    }
+}
+
+// Puts a chunk into the first 64 bits, and where it is asked for twice into the next 64.
+pub(crate) fn repeat(dst: &mut [u8], chunk: u64, times: usize)
+    requires { ⌜ (1 ≤ times) × (times ≤ 2) × (times * 8 ≤ length (now dst)) ⌝ }
+    ensures { λ _. ⌜ Filled (λ i. chunk / 256 ^ (i % 8) % 256) 8 (length (now (dst .entry))) (now (dst .exit)) times ⌝ }
+{
+    ground::put(&mut dst[0..8], chunk);
+    if times == 2 {
+        ground::put(&mut dst[8..16], chunk);
     }
 }

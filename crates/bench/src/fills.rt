@@ -1,4 +1,4 @@
-// What a load that ran writes: the destination register, the base and PC.
+// What a load that ran writes: a destination register, the base and PC.
 use crate::actives;
 use crate::reads;
 use ground::Size;
@@ -59,7 +59,7 @@ fn value(
     }
 }
 
-// What lane l becomes: the element that it takes, extended, or zero. A lane that takes none looks at no memory.
+// What lane l of destination j becomes: the element that it takes, extended, or zero. A lane that takes none looks at no memory.
 fn lane_value(
     map: Map,
     flash: &[u8],
@@ -68,24 +68,18 @@ fn lane_value(
     ram_rights: &[u8],
     pred: &[u8],
     plan: Plan,
+    j: u64,
     l: u64,
 ) -> u64
     requires { ⌜ PlanInRange plan ⌝ }
-    requires { ⌜ l ≤ 256 ⌝ }
+    requires { ⌜ (j ≤ 256) × (l ≤ 256) ⌝ }
     ensures { λ r. ⌜ r ≡ wrap (laneValue
         (answersIn (areasOf map (now (flash .entry)) (now («flash_rights» .entry)) (now (ram .entry)) (now («ram_rights» .entry))) plan)
-        plan (now (pred .entry)) l) ⌝ }
+        plan (now (pred .entry)) j l) ⌝ }
 {
     if actives::takes_element(plan, pred, l) {
-        let v = value(
-            map,
-            flash,
-            flash_rights,
-            ram,
-            ram_rights,
-            plan,
-            l % plan.elements,
-        );
+        let e = actives::lane_element(plan, j, l);
+        let v = value(map, flash, flash_rights, ram, ram_rights, plan, e);
         let size = plan.size;
         let lane = plan.lane;
         return extend(plan.signed, size, lane, v);
@@ -93,7 +87,7 @@ fn lane_value(
     0
 }
 
-// Fills a destination register of whole lanes, each lane's element read by itself.
+// Fills destination j, a register of whole lanes, each lane's element read by itself.
 pub(crate) fn fill(
     dst: &mut [u8],
     map: Map,
@@ -103,12 +97,13 @@ pub(crate) fn fill(
     ram_rights: &[u8],
     pred: &[u8],
     plan: Plan,
+    j: u64,
 )
     requires { ⌜ PlanInRange plan ⌝ }
-    requires { ⌜ (length (now dst) ≤ 256) × (length (now dst) % 8 ≡ 0) ⌝ }
+    requires { ⌜ (j ≤ 256) × (length (now dst) ≤ 256) × (length (now dst) % 8 ≡ 0) ⌝ }
     ensures { λ _. ⌜ now (dst .exit) ≡ registerOf
         (answersIn (areasOf map (now (flash .entry)) (now («flash_rights» .entry)) (now (ram .entry)) (now («ram_rights» .entry))) plan)
-        plan (now (pred .entry)) (length (now (dst .entry))) ⌝ }
+        plan (now (pred .entry)) j (length (now (dst .entry))) ⌝ }
 {
     let lane = plan.lane;
     let width = lane.bytes() as usize;
@@ -123,6 +118,7 @@ pub(crate) fn fill(
             ram_rights,
             pred,
             plan,
+            j,
             l as u64,
         );
         let at = l * width;

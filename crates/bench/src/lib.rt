@@ -63,7 +63,7 @@ fn carry_out<'a>(
         return ended(0, Answer::Stack);
     }
     let n = (settings.vl / 8) as usize;
-    let found = roads::target(z, n, map, flash, flash_rights, ram, ram_rights, pred, plan);
+    let found = roads::load(z, n, map, flash, flash_rights, ram, ram_rights, pred, plan);
     let answer = found.answer;
     if answer.number() == 0 {
         fills::scalars(x, plan);

@@ -8,7 +8,7 @@ ghost use mathlib.Core.Path.{_≡_};
 ghost use Prim.Native.Nat.{_≤_, _<_};
 ghost use lib.ListN.{length};
 ghost use Rattle.ground.specs.Sizes.{bytesOf};
-ghost use Rattle.bench.specs.Inside.Quick.{Copied, isAlways, ownOf, strideOf, countOf, ownIn, OwnOut, FillIn, FillOut};
+ghost use Rattle.bench.specs.Inside.Quick.{Copied, isAlways, ownOf, strideOf, countOf, ownIn, OwnOut, FillIn, FillOut, ReplicateIn, ReplicateOut};
 
 // Repeats the first `block` bytes of a register up to byte `end`.
 fn copies(dst: &mut [u8], block: usize, end: usize)
@@ -22,21 +22,20 @@ fn copies(dst: &mut [u8], block: usize, end: usize)
     }
 }
 
-// The same, with a call for each block that a load has: a chunk of LD1R, LD1RQ's and LD1RO's.
+// The same, with a call for each block that a load has: LD1RQ's and LD1RO's.
 fn blocks(dst: &mut [u8], block: usize, end: usize)
     requires { ⌜ (0 < block) × (end ≤ length (now dst)) ⌝ }
     ensures { λ _. ⌜ Copied (now (dst .entry)) (now (dst .exit)) block end ⌝ }
 {
     match block {
-        8 => copies(dst, 8, end),
         16 => copies(dst, 16, end),
         32 => copies(dst, 32, end),
         _ => copies(dst, block, end),
     }
 }
 
-// Whether the rule is LD1R's.
-fn always(rule: Rule) -> bool
+// Whether the rule is that of LD1R to LD4R.
+pub(crate) fn always(rule: Rule) -> bool
     ensures { λ r. ⌜ r ≡ isAlways rule ⌝ }
 {
     match rule {
@@ -46,6 +45,7 @@ fn always(rule: Rule) -> bool
     }
 }
 
+// Three numbers of a fill, by the rule. LD1R to LD4R, which `replicate` fills, ask for none of them.
 // How many chunks are a register's own, filled from the stretch; the rest is copies of them and zeros.
 fn own_of(rule: Rule, elements: usize, filled: usize, width: usize) -> usize
     requires { ⌜ (elements ≤ 256) × (filled ≤ 256) × (width ≤ 8) ⌝ }
@@ -58,7 +58,7 @@ fn own_of(rule: Rule, elements: usize, filled: usize, width: usize) -> usize
     }
 }
 
-// How far apart the elements of neighbouring lanes lie: LD1R and LD1R by element have one element for all of them.
+// How far apart the elements of neighbouring lanes lie: LD1R by element has one element for all of them.
 fn stride_of(rule: Rule, size: usize) -> usize
     ensures { λ r. ⌜ r ≡ strideOf rule size ⌝ }
 {
@@ -95,9 +95,6 @@ fn own_lanes(
     let rule = plan.rule;
     let size = plan.size;
     let element_bytes = size.bytes() as usize;
-    if always(rule) {
-        return chunks::replicated(&mut dst[0..8], stretch, element_bytes);
-    }
     let stride = stride_of(rule, element_bytes);
     chunks::sized(
         dst,
@@ -111,8 +108,27 @@ fn own_lanes(
     )
 }
 
-// Fills a register from a stretch that has every element, and counts the reads: its own chunks, then their copies, then zeros. Nothing
-// can fault.
+// Fills a destination of LD1R to LD4R from a stretch that has every element: chunks of its own element up to byte `end`, then zeros.
+pub(crate) fn replicate(
+    dst: &mut [u8],
+    stretch: &[u8],
+    plan: Plan,
+    j: u64,
+    element_bytes: usize,
+    end: usize,
+)
+    requires { ⌜ ReplicateIn plan (now stretch) j «element_bytes» end (length (now dst)) ⌝ }
+    ensures { λ _. ⌜ ReplicateOut plan (now (stretch .entry)) j (length (now (dst .entry))) (now (dst .exit)) ⌝ }
+{
+    let size = plan.size;
+    let from = j as usize * element_bytes;
+    let chunk = chunks::spread(stretch, from, size);
+    chunks::repeat(dst, chunk, end / 8);
+    fills::zeros(dst, end);
+}
+
+// Fills the one destination of any other load from such a stretch, and counts the reads: its own chunks, then their copies, then zeros.
+// Nothing can fault.
 pub(crate) fn fill(dst: &mut [u8], stretch: &[u8], pred: &[u8], plan: Plan) -> u64
     requires { ⌜ FillIn plan (now pred) (now stretch) (length (now dst)) ⌝ }
     ensures { λ r. ⌜ FillOut plan (now (pred .entry)) (now (stretch .entry)) (length (now (dst .entry))) (now (dst .exit)) r ⌝ }

@@ -5,7 +5,7 @@ use Rattle.memory.specs.Addresses.{wrap, wrapℤ}
 use Rattle.steps.specs.Answers.{numberOf}
 use Rattle.steps.specs.Benches.{Bench, Lent}
 use Rattle.steps.specs.Demand1.{AllReadable, Ready}
-use Rattle.steps.specs.Demand2.{Done, Leaves, laneIn}
+use Rattle.steps.specs.Demand2.{Done, Leaves, destination, laneIn}
 use Rattle.steps.specs.Lanes.{asked, elementAt, governingBytes}
 use Rattle.steps.specs.Plans.{planOf}
 use Rattle.steps.specs.Said.{K, LaneActive, N, copies, laneBytes}
@@ -35,7 +35,7 @@ pub demand-2-promise : (l : Lent) (w : ℕ) (b : Bench) (r : StepResult) (l₁ :
 demand-2-promise = Rattle.steps.proofs.Demand2.demand-2-promise
 
 -- A load that is ready and can read every byte of its active elements leaves what document 01 says: each lane its extended
--- number or zero, the base, PC, and everything else as it was.
+-- number or zero in every destination, the base, PC, and everything else as it was.
 pub demand-2 : (l : Lent) (w : ℕ) (b : Bench) (r : StepResult) (l₁ : Lent) (b₁ : Bench) (promise : StepPromise l w b r l₁ b₁) → (i : Insn)
     → Ready l w b i → AllReadable l b i → Leaves l b i l₁ b₁
 demand-2 = Rattle.steps.proofs.Demand2.demand-2
@@ -50,34 +50,47 @@ pub demand-2-count : (l : Lent) (w : ℕ) (b : Bench) (r : StepResult) (l₁ : L
     → Ready l w b i → AllReadable l b i → let p = planOf (l .settings .vl) (b .scalars) i in r .count ≡ length (asked p (governingBytes l p))
 demand-2-count = Rattle.steps.proofs.Demand2.demand-2-count
 
+-- Of LD1R to LD4R it is the number of registers.
+pub replicate-count : (l : Lent) (w : ℕ) (b : Bench) (r : StepResult) (l₁ : Lent) (b₁ : Bench) (promise : StepPromise l w b r l₁ b₁) → (i : Insn)
+    → Ready l w b i → AllReadable l b i → (q : ℕ) (back : Back) → i .shape ≡ Replicate q back → r .count ≡ i .registers
+replicate-count = Rattle.steps.proofs.Demand2.replicate-count
+
+-- "registers t, t+1 and on, 31 followed by 0": register t + j modulo 32,
+pub destination-is : (i : Insn) → i .target < 32 → (j : ℕ) → destination i j ≡ (i .target + j) % 32
+destination-is = Rattle.steps.proofs.Places.destination-is
+
+-- so that no register is a destination twice.
+pub destinations-apart : (i : Insn) → i .target < 32 → (j k : ℕ) → j < k → k < 32 → destination i j ≡ destination i k → ⊥
+destinations-apart = Rattle.steps.proofs.Places.destinations-apart
+
 -- An inactive lane becomes zero: of LD1,
 pub inactive-zero : (l : Lent) (w : ℕ) (b : Bench) (r : StepResult) (l₁ : Lent) (b₁ : Bench) (promise : StepPromise l w b r l₁ b₁) (i : Insn)
-    (ready : Ready l w b i) (all : AllReadable l b i) (k : ℕ) (inside : k < N l i) → (o : Offset) → i .shape ≡ Contiguous o → (LaneActive l i k → ⊥)
-    → laneIn l (b₁ .vectors) (i .target) (laneBytes i) k ≡ 0
+    (ready : Ready l w b i) (all : AllReadable l b i) (j : ℕ) (there : j < i .registers) (k : ℕ) (inside : k < N l i) → (o : Offset) → i .shape ≡ Contiguous o → (LaneActive l i k → ⊥)
+    → laneIn l (b₁ .vectors) (destination i j) (laneBytes i) k ≡ 0
 inactive-zero = Rattle.steps.proofs.Demand2.inactive-zero
 
 -- of LD1R by element,
 pub element-inactive-zero : (l : Lent) (w : ℕ) (b : Bench) (r : StepResult) (l₁ : Lent) (b₁ : Bench) (promise : StepPromise l w b r l₁ b₁) (i : Insn)
-    (ready : Ready l w b i) (all : AllReadable l b i) (k : ℕ) (inside : k < N l i) → (imm6 : ℕ) → i .shape ≡ ByElement imm6 → (LaneActive l i k → ⊥)
-    → laneIn l (b₁ .vectors) (i .target) (laneBytes i) k ≡ 0
+    (ready : Ready l w b i) (all : AllReadable l b i) (j : ℕ) (there : j < i .registers) (k : ℕ) (inside : k < N l i) → (imm6 : ℕ) → i .shape ≡ ByElement imm6 → (LaneActive l i k → ⊥)
+    → laneIn l (b₁ .vectors) (destination i j) (laneBytes i) k ≡ 0
 element-inactive-zero = Rattle.steps.proofs.Demand2.element-inactive-zero
 
 -- of a block load, where it is one of the block's own, zero in each copy;
 pub block-inactive-zero : (l : Lent) (w : ℕ) (b : Bench) (r : StepResult) (l₁ : Lent) (b₁ : Bench) (promise : StepPromise l w b r l₁ b₁) (i : Insn)
-    (ready : Ready l w b i) (all : AllReadable l b i) (k : ℕ) (inside : k < N l i) → (wide : Bool) (o : Offset) → i .shape ≡ Block wide o
-    → (LaneActive l i (k % K wide i) → ⊥) → laneIn l (b₁ .vectors) (i .target) (laneBytes i) k ≡ 0
+    (ready : Ready l w b i) (all : AllReadable l b i) (j : ℕ) (there : j < i .registers) (k : ℕ) (inside : k < N l i) → (wide : Bool) (o : Offset) → i .shape ≡ Block wide o
+    → (LaneActive l i (k % K wide i) → ⊥) → laneIn l (b₁ .vectors) (destination i j) (laneBytes i) k ≡ 0
 block-inactive-zero = Rattle.steps.proofs.Demand2.block-inactive-zero
 
 -- and so do the bytes that a block leaves over,
 pub left-over-zero : (l : Lent) (w : ℕ) (b : Bench) (r : StepResult) (l₁ : Lent) (b₁ : Bench) (promise : StepPromise l w b r l₁ b₁) (i : Insn)
-    (ready : Ready l w b i) (all : AllReadable l b i) (k : ℕ) (inside : k < N l i) → (wide : Bool) (o : Offset) → i .shape ≡ Block wide o
-    → copies l wide ≤ k / K wide i → laneIn l (b₁ .vectors) (i .target) (laneBytes i) k ≡ 0
+    (ready : Ready l w b i) (all : AllReadable l b i) (j : ℕ) (there : j < i .registers) (k : ℕ) (inside : k < N l i) → (wide : Bool) (o : Offset) → i .shape ≡ Block wide o
+    → copies l wide ≤ k / K wide i → laneIn l (b₁ .vectors) (destination i j) (laneBytes i) k ≡ 0
 left-over-zero = Rattle.steps.proofs.Demand2.left-over-zero
 
--- and, of LD1R, "the rest of the Z register".
+-- and, of LD1R to LD4R, "the rest of the Z register".
 pub rest-zero : (l : Lent) (w : ℕ) (b : Bench) (r : StepResult) (l₁ : Lent) (b₁ : Bench) (promise : StepPromise l w b r l₁ b₁) (i : Insn)
-    (ready : Ready l w b i) (all : AllReadable l b i) (k : ℕ) (inside : k < N l i) → (q : ℕ) (back : Back) → i .shape ≡ Replicate q back
-    → 8 * 2 ^ q ≤ k * laneBytes i → laneIn l (b₁ .vectors) (i .target) (laneBytes i) k ≡ 0
+    (ready : Ready l w b i) (all : AllReadable l b i) (j : ℕ) (there : j < i .registers) (k : ℕ) (inside : k < N l i) → (q : ℕ) (back : Back) → i .shape ≡ Replicate q back
+    → 8 * 2 ^ q ≤ k * laneBytes i → laneIn l (b₁ .vectors) (destination i j) (laneBytes i) k ≡ 0
 rest-zero = Rattle.steps.proofs.Demand2.rest-zero
 
 -- imm4 is a whole number from -8 to 7.
@@ -116,7 +129,7 @@ pub ld1r-by-element : (l : Lent) (x : List ℕ) (i : Insn) → (imm6 : ℕ) → 
     ≡ wrap (scalar x (i .base) + imm6 * bytesOf (i .element .memory))
 ld1r-by-element = Rattle.steps.proofs.Demand2.ld1r-by-element
 
--- one read at the base
-pub ld1r : (l : Lent) (x : List ℕ) (i : Insn) → (q : ℕ) (back : Back) → i .shape ≡ Replicate q back → elementAt (planOf (l .settings .vl) x i) 0
-    ≡ wrap (scalar x (i .base))
-ld1r = Rattle.steps.proofs.Demand2.ld1r
+-- LD1R to LD4R: base + e × m, from the base itself on
+pub replicated : (l : Lent) (x : List ℕ) (i : Insn) → (q : ℕ) (back : Back) → i .shape ≡ Replicate q back → (e : ℕ)
+    → elementAt (planOf (l .settings .vl) x i) e ≡ wrap (scalar x (i .base) + e * bytesOf (i .element .memory))
+replicated = Rattle.steps.proofs.Demand2.replicated

@@ -11,7 +11,7 @@ use Rattle.words.specs.Dtypes.{DtypePromise, dtypeOf, dtypes, plainOf, unsigned
 use Rattle.words.specs.Families.{FamilyRow, ReadPromise, families, readBy, readOf}
 use Rattle.words.specs.Insns.{insnWith}
 use Rattle.words.specs.Layouts.{LaidOut, Means}
-use Rattle.words.specs.Ranges.{InRange}
+use Rattle.words.specs.Ranges.{InRange, InsnInRange}
 use Rattle.words.specs.declared.Decoded.{Decoded}
 use Rattle.words.specs.declared.Decoded.the-variants.{Is, Outside, Undefined}
 use Rattle.words.specs.declared.Dtype.{Dtype}
@@ -51,6 +51,10 @@ not-wanted-outside = Rattle.words.proofs.NotWanted.not-wanted-outside
 pub in-range : (w : ℕ) → InRange (readOf w)
 in-range = Rattle.words.proofs.Ranges.in-range
 
+-- .. and so are those of what is laid out.
+pub means-in-range : (w : ℕ) (i : Insn) → Means w (Is i) → InsnInRange i
+means-in-range = Rattle.words.proofs.Ranges.means-in-range
+
 -- The dtype table is the rule in all sixteen rows,
 pub dtype-table : dtypes ≡ listed ruleOf 0 16
 dtype-table = Rattle.words.proofs.DtypeRule.dtype-table
@@ -86,8 +90,8 @@ pub longer-takes : (apart longer ≡ true) × Among families longer × ((w : ℕ
 longer-takes = Rattle.words.proofs.Apart.longer-takes
 
 -- The parts of an instruction are where their names say,
-pub insn-parts : (d : Dtype) (g : Governing) (rn rt : ℕ) (s : Shape) → let i = insnWith d g rn rt s in (i .element ≡ d) × (i .governing ≡ g)
-    × (i .base ≡ rn) × (i .target ≡ rt) × (i .shape ≡ s)
+pub insn-parts : (d : Dtype) (g : Governing) (rn rt n : ℕ) (s : Shape) → let i = insnWith d g rn rt n s in (i .element ≡ d) × (i .governing ≡ g)
+    × (i .base ≡ rn) × (i .target ≡ rt) × (i .registers ≡ n) × (i .shape ≡ s)
 insn-parts = Rattle.words.proofs.Layouts.insn-parts
 
 -- and those of an element that is as wide in memory as in its lane.

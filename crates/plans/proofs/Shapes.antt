@@ -2,6 +2,7 @@
 use mathlib.Core.Path.{_≡_, refl, ap}
 use mathlib.Core.Bool.{Bool, true, false, _&&_}
 use mathlib.Core.List.{List}
+use mathlib.Core.Logic.{_⊎_, inl, inr}
 use Prim.Native.Nat.{ℕ, _*_, _/_, _%_, _≤_, _<_}
 use native.Mathlib.Nat.{one-mul, mul-assoc, mul-le-mul-right, dvd-mul-right, pos-of-dvd-of-pos}
 use native.Mathlib.Omega.{arith}
@@ -30,10 +31,12 @@ use Rattle.plans.proofs.Prepares.{planned-each}
 pub factor-some : (k w n : ℕ) → k * w ≡ n → 0 < n → 0 < k
 factor-some k w n e h = pos-of-dvd-of-pos (rw e at (dvd-mul-right k w)) h
 
--- LD1R fills 8 or 16 bytes
-replicates : (b : Bool) → (8 ≤ (if b then 16 else 8)) × ((if b then 16 else 8) ≤ 16) × (_≡_ {A = ℕ} ((if b then 16 else 8) % 8) 0)
-replicates true = (lit≤ tt, lit≤ tt, refl)
-replicates false = (lit≤ tt, lit≤ tt, refl)
+-- LD1R to LD4R fill 8 or 16 bytes of a register
+replicates : (b : Bool)
+    → ((_≡_ {A = ℕ} (if b then 16 else 8) 8) ⊎ (_≡_ {A = ℕ} (if b then 16 else 8) 16)) × ((if b then 16 else 8) ≤ 16)
+    × (_≡_ {A = ℕ} ((if b then 16 else 8) % 8) 0)
+replicates true = (inr refl, lit≤ tt, refl)
+replicates false = (inl refl, lit≤ tt, refl)
 
 module _ (vl : ℕ) (allowed : LengthAllowed vl) where
   -- a block goes into a register, LD1RO's into one of 256 bits
@@ -51,7 +54,7 @@ module _ (vl : ℕ) (allowed : LengthAllowed vl) where
         let e = whole-lanes (i .element .lane) n (r .2) in
         record {
           room = rw e (omega (arith, r .1));
-          shape = (refl, rw e (r .0), ap (λ (d : Dtype). d .lane) (h .2), ap (λ (d : Dtype). d .signed) (h .2));
+          shape = (rw e (r .0), ap (λ (d : Dtype). d .lane) (h .2), ap (λ (d : Dtype). d .signed) (h .2));
         }
     plan-shaped (ByElement imm6) h long =
         let e = register-lanes (i .element .lane) vl (allowed .multiple) in

@@ -63,15 +63,16 @@ fn start(x: &[u64], rn: u32, size: Size, block: u64, offset: Offset) -> Address
     }
 }
 
-// What post-index adds: the read's size where Rm is 31, else Xm.
-fn amount(x: &[u64], size: Size, back: Back) -> u64
-    ensures { λ r. ⌜ r ≡ amountOf (now (x .entry)) size back ⌝ }
+// What post-index adds: the sum of the reads, one for each register, where Rm is 31, else Xm.
+fn amount(x: &[u64], registers: u32, size: Size, back: Back) -> u64
+    requires { ⌜ registers ≤ 4 ⌝ }
+    ensures { λ r. ⌜ r ≡ amountOf (now (x .entry)) (registers * bytesOf size) back ⌝ }
 {
     match back {
         Back::Keep => 0,
         Back::Post(rm) => {
             if rm == 31 {
-                return size.bytes();
+                return registers as u64 * size.bytes();
             }
             scalar(x, rm)
         }
@@ -125,8 +126,9 @@ fn plan_with(
     }
 }
 
-// LD1R: one read, over 64 bits where Q is 0, else over 128.
+// LD1R to LD4R: a read for each register, over 64 bits where Q is 0, else over 128.
 fn replicate(x: &[u64], insn: Insn, q: u32, back: Back) -> Plan
+    requires { ⌜ insn .registers ≤ 4 ⌝ }
     ensures { λ r. ⌜ r ≡ planWith insn (replicated (now (x .entry)) insn q back) ⌝ }
 {
     let element = insn.element;
@@ -135,8 +137,18 @@ fn replicate(x: &[u64], insn: Insn, q: u32, back: Back) -> Plan
     let bytes = if q == 1 { 16 } else { 8 };
     let filled = bytes / lane.bytes();
     let start = Address(scalar(x, insn.base));
-    let added = amount(x, size, back);
-    plan_with(insn, start, 1, filled, Rule::Always, 0, writes(back), added)
+    let elements = insn.registers as u64;
+    let added = amount(x, insn.registers, size, back);
+    plan_with(
+        insn,
+        start,
+        elements,
+        filled,
+        Rule::Always,
+        0,
+        writes(back),
+        added,
+    )
 }
 
 // N, the lanes of a register.

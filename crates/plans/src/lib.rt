@@ -26,7 +26,7 @@ fn is_wide(shape: Shape) -> bool
     }
 }
 
-// Whether the switch that a load asks is off: SIMD for LD1R, SVE for any other.
+// Whether the switch that a load asks is off: SIMD for LD1R to LD4R, SVE for any other.
 fn switched_off(settings: Settings, shape: Shape) -> bool
     ensures { λ r. ⌜ r ≡ not (switchedOn settings shape) ⌝ }
 {

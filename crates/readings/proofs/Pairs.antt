@@ -24,9 +24,9 @@ use Rattle.steps.specs.Answers.{reportOf}
 use Rattle.steps.specs.Benches.{Lent, Bench, InTypes, areasIn, isAccepted}
 use Rattle.steps.specs.Terms.{signed4}
 use Rattle.steps.specs.Plans.{spreadOf}
-use Rattle.steps.specs.Lanes.{governingBytes, bitOf, isActive, wanted, asked, laneTakes, checksStack, elementAt}
+use Rattle.steps.specs.Lanes.{governingBytes, bitOf, isActive, wanted, asked, laneTakes, checksStack, laneElement, destinationsIn, destinationOf, elementAt}
 use Rattle.steps.specs.Outcomes.{Outcome, answersIn, surveyOf, extended, laneValue, registerByte, registerOf}
-use Rattle.steps.specs.Outcomes.{baseAfter, scalarsAfter, benchAfter, outcomeOf}
+use Rattle.steps.specs.Outcomes.{vectorsAfter, baseAfter, scalarsAfter, benchAfter, outcomeOf}
 use Rattle.steps.specs.Step.{Prepared, Stop, Go, stackFails, refusals, plannedLoad, plannedOf, preparedOf, stepOf}
 use Rattle.steps.specs.Said.{Accepted}
 use Rattle.steps.specs.Demand2.{Done}
@@ -272,8 +272,8 @@ pairs =
 
 pub computed : all (λ p. allOf (tests p)) pairs ≡ true
 unfolding replaced sizeOf dtypes dtypeOf scalarOf families readOf movedOf isAreaAccepted shareNone areAreasAccepted covers placeOf judged lookOf readingOf
-    isAccepted signed4 spreadOf governingBytes bitOf isActive wanted asked laneTakes elementAt answersIn surveyOf extended laneValue registerByte registerOf
-    baseAfter scalarsAfter benchAfter outcomeOf checksStack stackFails refusals plannedLoad plannedOf preparedOf stepOf
+    isAccepted signed4 spreadOf governingBytes bitOf isActive wanted asked laneTakes laneElement destinationsIn destinationOf elementAt answersIn surveyOf extended laneValue registerByte registerOf
+    vectorsAfter baseAfter scalarsAfter benchAfter outcomeOf checksStack stackFails refusals plannedLoad plannedOf preparedOf stepOf
 computed = refl
 
 -- Each of them meets the premise of demand 3, is no bench and itself, and ends as demand 3 says.

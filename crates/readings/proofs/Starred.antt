@@ -13,8 +13,8 @@ use Rattle.memory.specs.Elements.{readingOf}
 use Rattle.steps.specs.Benches.{isAccepted}
 use Rattle.steps.specs.Terms.{signed4}
 use Rattle.steps.specs.Plans.{spreadOf}
-use Rattle.steps.specs.Lanes.{governingBytes, bitOf, isActive, wanted, asked, laneTakes, checksStack, elementAt}
-use Rattle.steps.specs.Outcomes.{answersIn, surveyOf, extended, laneValue, registerByte, registerOf, baseAfter, scalarsAfter, benchAfter, outcomeOf}
+use Rattle.steps.specs.Lanes.{governingBytes, bitOf, isActive, wanted, asked, laneTakes, checksStack, laneElement, destinationsIn, destinationOf, elementAt}
+use Rattle.steps.specs.Outcomes.{answersIn, surveyOf, extended, laneValue, registerByte, registerOf, vectorsAfter, baseAfter, scalarsAfter, benchAfter, outcomeOf}
 use Rattle.steps.specs.Step.{stackFails, refusals, plannedLoad, plannedOf, preparedOf, stepOf}
 use Rattle.readings.proofs.Cases.{StarredCase, Ended, isRight, allActive, noneActive, only, _≔_, sp, pc, zoneWith, empty, page, allOn}
 use Rattle.readings.proofs.Cases.{sveOff, simdOff, f64mmAndSveOff, setUpWith, ran, faults, refuses, rising, eight, zeros, nines, copies, plain}
@@ -112,6 +112,6 @@ table = starred ++ ours
 
 pub readings : EachOf Ended table
 unfolding replaced sizeOf dtypes dtypeOf scalarOf families readOf movedOf isAreaAccepted shareNone areAreasAccepted covers placeOf judged lookOf readingOf
-    isAccepted signed4 spreadOf governingBytes bitOf isActive wanted asked laneTakes elementAt answersIn surveyOf extended laneValue registerByte registerOf
-    baseAfter scalarsAfter benchAfter outcomeOf checksStack stackFails refusals plannedLoad plannedOf preparedOf stepOf
+    isAccepted signed4 spreadOf governingBytes bitOf isActive wanted asked laneTakes laneElement destinationsIn destinationOf elementAt answersIn surveyOf extended laneValue registerByte registerOf
+    vectorsAfter baseAfter scalarsAfter benchAfter outcomeOf checksStack stackFails refusals plannedLoad plannedOf preparedOf stepOf
 readings = each-of Ended isRight ended table refl

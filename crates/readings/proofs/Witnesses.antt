@@ -1,4 +1,4 @@
--- Each premise of a demand can be met. A row below is a load, a bench and a lane for which all premises of a theorem of demand 2 hold together: a family a
+-- Each premise of a demand can be met. A row below is a load, a bench, a destination and a lane for which all premises of a theorem of demand 2 hold together: a family a
 -- row, and with it demand-1-counted, demand-2, -count and -determined; its shape is the premise of its address formula. Benches that earn
 -- any other answer than "ran" stand in Refusals.
 --
@@ -36,11 +36,11 @@ use Rattle.steps.specs.Said.{laneBytes, N, K, copies, LaneActive, Active, lies}
 use Rattle.steps.specs.Answers.{Report}
 use Rattle.steps.specs.Demand1 as G
 use Rattle.steps.specs.Demand1.{Ready, AllReadable, Counted, elementLimit}
-use Rattle.steps.specs.Demand2.{laneIn, Leaves, Done}
+use Rattle.steps.specs.Demand2.{destination, laneIn, Leaves, Done}
 use Rattle.steps.specs.declared.StepResult.{StepResult}
 use Rattle.steps.proofs.Demand1.{demand-1-promise, demand-1-counted}
 use Rattle.steps.proofs.Demand2.{demand-2, demand-2-promise, demand-2-runs, demand-2-determined, demand-2-count}
-use Rattle.steps.proofs.Demand2.{ld1-immediate, ld1-scalar, ld1rq-immediate, ld1ro-immediate, block-scalar, ld1r-by-element, ld1r}
+use Rattle.steps.proofs.Demand2.{ld1-immediate, ld1-scalar, ld1rq-immediate, ld1ro-immediate, block-scalar, ld1r-by-element, replicated}
 use Rattle.steps.specs.declared.Plan.{Plan}
 use Rattle.steps.proofs.Demand3.{demand-3-faults, demand-3-apart}
 use Rattle.steps.proofs.Promise.{promise-met}
@@ -51,7 +51,8 @@ use Rattle.readings.proofs.Cases.{rising}
 use Rattle.readings.proofs.Tests.{typeTests, in-types}
 use Rattle.readings.proofs.Tables.{EachOf}
 
--- the theorems of demand 2 by which a lane becomes zero, and the premise of each beside "it ran" and "k is one of its lanes"
+-- the theorems of demand 2 by which a lane becomes zero, and the premise of each beside "it ran", "j is one of its destinations" and "k is one
+-- of its lanes"
 pub data Law : Type 0 where
   inactive element-inactive block-inactive left-over rest : Law
 
@@ -67,6 +68,7 @@ pub record Witness : Type 0 where
   pub word : ℕ
   pub load : Insn
   pub setUp : SetUp
+  pub destination : ℕ
   pub lane : ℕ
 
 -- all premises hold together
@@ -74,14 +76,16 @@ pub record Met (t : Witness) : Type 0 where
   pub ready : Ready (lentBy (t .setUp)) (t .word) (benchBy (t .setUp)) (t .load)
   pub readable : AllReadable (lentBy (t .setUp)) (benchBy (t .setUp)) (t .load)
   pub came : InTypes (lentBy (t .setUp)) (t .word) (benchBy (t .setUp))
+  pub there : t .destination < t .load .registers
   pub inside : t .lane < N (lentBy (t .setUp)) (t .load)
   pub premise : Premise (t .law) (lentBy (t .setUp)) (t .load) (t .lane)
 
--- what is computed of a row: it can come in, its step runs, and the lane is one of the register's
+-- what is computed of a row: it can come in, its step runs, and destination and lane are among its own
 abbrev tests : Witness → List Bool
 tests t =
     allOf (typeTests (lentBy (t .setUp)) (t .word) (benchBy (t .setUp)))
     ∷ eqb (stepOf (lentBy (t .setUp)) (t .word) (benchBy (t .setUp)) .report .number) 0
+    ∷ ltb (t .destination) (t .load .registers)
     ∷ ltb (t .lane) (N (lentBy (t .setUp)) (t .load))
     ∷ []
 
@@ -90,27 +94,34 @@ met t reads h premise =
     let c = all-of (tests t) h in
     let came = in-types (lentBy (t .setUp)) (t .word) (benchBy (t .setUp)) (c 0) in
     let r = ran-as (lentBy (t .setUp)) (t .word) (benchBy (t .setUp)) (came .word) (t .load) reads (eqb-true _ _ (c 1)) in
-    record { ready = r .0; readable = r .1; came = came; inside = ltb-true _ _ (c 2); premise = premise }
+    record { ready = r .0; readable = r .1; came = came; there = ltb-true _ _ (c 2); inside = ltb-true _ _ (c 3); premise = premise }
 
--- a load of doublewords into lanes of 64 bits by X0 to Z0, governed by P0; and LD1R of bytes
+-- a load of doublewords into lanes of 64 bits by X0 to Z0, governed by P0; and LD1R to LD4R of bytes, by the number of registers
 abbrev doubles : Shape → Insn
-doubles s = record { element = record { memory = B64; lane = B64; signed = false }; base = 0; target = 0; governing = By 0; shape = s }
+doubles s = record { element = record { memory = B64; lane = B64; signed = false }; base = 0; target = 0; registers = 1; governing = By 0; shape = s }
 
-abbrev bytes : Shape → Insn
-bytes s = record { element = record { memory = B8; lane = B8; signed = false }; base = 0; target = 0; governing = None; shape = s }
+abbrev bytes : ℕ → Shape → Insn
+bytes n s = record { element = record { memory = B8; lane = B8; signed = false }; base = 0; target = 0; registers = n; governing = None; shape = s }
 
 -- X0 at 4,096, X1 zero, 32 readable bytes, and lane 0 alone active in P0
 abbrev lane0 : ℕ → SetUp
 lane0 vl = setUpWith (allOn vl) (only vl 0 (1 ∷ replicate (vl / 64 - 1) 0)) (page (rising 1 32)) empty (0 ≔ 4096 ∷ 1 ≔ 0 ∷ [])
 
+abbrev rowOf : ℕ → Law → ℕ → Insn → ℕ → ℕ → Witness
+rowOf j law w i vl k = record { law = law; word = w; load = i; setUp = lane0 vl; destination = j; lane = k }
+
+-- .. of the first destination
 abbrev row : Law → ℕ → Insn → ℕ → ℕ → Witness
-row law w i vl k = record { law = law; word = w; load = i; setUp = lane0 vl; lane = k }
+row = rowOf 0
 
 abbrev pub table : List Witness
 table =
     -- LD1R {V0.16B}, [X0] and LD1R {V0.8B}, [X0], #1
-    row rest 0x4D40C000 (bytes (Replicate 1 Keep)) 256 16
-    ∷ row rest 0x0DDFC000 (bytes (Replicate 0 (Post 31))) 128 8
+    row rest 0x4D40C000 (bytes 1 (Replicate 1 Keep)) 256 16
+    ∷ row rest 0x0DDFC000 (bytes 1 (Replicate 0 (Post 31))) 128 8
+    -- LD2R {V0.16B, V1.16B}, [X0], its second register, and LD4R {V0.8B-V3.8B}, [X0], #4, its last
+    ∷ rowOf 1 rest 0x4D60C000 (bytes 2 (Replicate 1 Keep)) 256 16
+    ∷ rowOf 3 rest 0x0DFFE000 (bytes 4 (Replicate 0 (Post 31))) 128 8
     -- LD1RD {Z0.D}, P0/Z, [X0]
     ∷ row element-inactive 0x85C0E000 (doubles (ByElement 0)) 128 1
     -- LD1D {Z0.D}, P0/Z, [X0] and [X0, X1, LSL #3]
@@ -135,6 +146,8 @@ unfolding sizeOf dtypes dtypeOf scalarOf families readOf movedOf isAreaAccepted 
     refusals plannedLoad plannedOf preparedOf stepOf
 witnesses =
     met _ refl refl (1, Keep, refl, omega arith)
+    & met _ refl refl (0, Post 31, refl, omega arith)
+    & met _ refl refl (1, Keep, refl, omega arith)
     & met _ refl refl (0, Post 31, refl, omega arith)
     & met _ refl refl (0, refl, clear)
     & met _ refl refl (Imm 0, refl, clear)
@@ -169,14 +182,14 @@ module _ (t : Witness) (h : Met t) where
 
   -- the lane is zero
   abbrev Zero : Type 0
-  Zero = laneIn l (after .bench .vectors) (i .target) (laneBytes i) (t .lane) ≡ 0
+  Zero = laneIn l (after .bench .vectors) (destination i (t .destination)) (laneBytes i) (t .lane) ≡ 0
 
   zeroed : (law : Law) → Premise law l i (t .lane) → Zero
-  zeroed inactive p = inactive-zero l _ b _ _ _ promise i (h .ready) (h .readable) (t .lane) (h .inside) (p .0) (p .1) (p .2)
-  zeroed element-inactive p = element-inactive-zero l _ b _ _ _ promise i (h .ready) (h .readable) (t .lane) (h .inside) (p .0) (p .1) (p .2)
-  zeroed block-inactive p = block-inactive-zero l _ b _ _ _ promise i (h .ready) (h .readable) (t .lane) (h .inside) (p .0) (p .1) (p .2) (p .3)
-  zeroed left-over p = left-over-zero l _ b _ _ _ promise i (h .ready) (h .readable) (t .lane) (h .inside) (p .0) (p .1) (p .2) (p .3)
-  zeroed rest p = rest-zero l _ b _ _ _ promise i (h .ready) (h .readable) (t .lane) (h .inside) (p .0) (p .1) (p .2) (p .3)
+  zeroed inactive p = inactive-zero l _ b _ _ _ promise i (h .ready) (h .readable) (t .destination) (h .there) (t .lane) (h .inside) (p .0) (p .1) (p .2)
+  zeroed element-inactive p = element-inactive-zero l _ b _ _ _ promise i (h .ready) (h .readable) (t .destination) (h .there) (t .lane) (h .inside) (p .0) (p .1) (p .2)
+  zeroed block-inactive p = block-inactive-zero l _ b _ _ _ promise i (h .ready) (h .readable) (t .destination) (h .there) (t .lane) (h .inside) (p .0) (p .1) (p .2) (p .3)
+  zeroed left-over p = left-over-zero l _ b _ _ _ promise i (h .ready) (h .readable) (t .destination) (h .there) (t .lane) (h .inside) (p .0) (p .1) (p .2) (p .3)
+  zeroed rest p = rest-zero l _ b _ _ _ promise i (h .ready) (h .readable) (t .destination) (h .there) (t .lane) (h .inside) (p .0) (p .1) (p .2) (p .3)
 
   -- what document 01 says it leaves is what the step leaves, and nothing else
   abbrev Left : Type 0
@@ -218,13 +231,13 @@ abbrev Lies : Lent → List ℕ → Insn → ℕ → Type 0
 Lies l x i n = elementAt (planOf (l .settings .vl) x i) n ≡ wrapℤ (lies l x i n)
 
 pub formulas-used : (l : Lent) (x : List ℕ) (e : ℕ)
-    → Lies l x (bytes (Replicate 1 Keep)) 0 × Lies l x (bytes (Replicate 0 (Post 31))) 0 × Lies l x (doubles (ByElement 0)) 0
+    → Lies l x (bytes 1 (Replicate 1 Keep)) 0 × Lies l x (bytes 4 (Replicate 0 (Post 31))) e × Lies l x (doubles (ByElement 0)) 0
     × Lies l x (doubles (Contiguous (Imm 0))) e × Lies l x (doubles (Contiguous (Reg 1))) e
     × Lies l x (doubles (Block false (Imm 0))) e × Lies l x (doubles (Block true (Imm 0))) e
     × Lies l x (doubles (Block false (Reg 1))) e × Lies l x (doubles (Block true (Reg 1))) e
 formulas-used l x e = (
-  ld1r l x (bytes (Replicate 1 Keep)) 1 Keep refl,
-  ld1r l x (bytes (Replicate 0 (Post 31))) 0 (Post 31) refl,
+  replicated l x (bytes 1 (Replicate 1 Keep)) 1 Keep refl 0,
+  replicated l x (bytes 4 (Replicate 0 (Post 31))) 0 (Post 31) refl e,
   ld1r-by-element l x (doubles (ByElement 0)) 0 refl,
   ld1-immediate l x (doubles (Contiguous (Imm 0))) 0 refl e,
   ld1-scalar l x (doubles (Contiguous (Reg 1))) 1 refl e,

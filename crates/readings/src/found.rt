@@ -1,4 +1,4 @@
-// What Z0 holds, by the lane window, and where in the lent areas that lies.
+// What Z0 and Z1 hold, by the lane window, and where in the lent areas that lies.
 use crate::setups::ram_start;
 use lanes::Kind;
 use lanes::Shown;
@@ -10,9 +10,9 @@ pub struct Spot {
     pub at: Address,
 }
 
-// Lane e of Z0. Where there is none, all ones: no row expects that.
-pub(crate) fn lane(z: &[u8], vl: u32, width: u32, e: u64) -> u64 {
-    match lanes::show(vl as u64, z, 0, Kind::Whole, width, e) {
+// Lane e of register r. Where there is none, all ones: no row expects that.
+pub(crate) fn lane_in(z: &[u8], vl: u32, r: u32, width: u32, e: u64) -> u64 {
+    match lanes::show(vl as u64, z, r, Kind::Whole, width, e) {
         Shown::Single(_) => u64::MAX,
         Shown::Double(_) => u64::MAX,
         Shown::Whole(bits) => bits,
@@ -20,11 +20,16 @@ pub(crate) fn lane(z: &[u8], vl: u32, width: u32, e: u64) -> u64 {
     }
 }
 
-// How many of n lanes the first `unit` and their copies fill: up to the first lane that differs from the one `unit` before it.
-pub(crate) fn repeated(z: &[u8], vl: u32, width: u32, n: u64, unit: u64) -> u64 {
+// Lane e of Z0.
+pub(crate) fn lane(z: &[u8], vl: u32, width: u32, e: u64) -> u64 {
+    lane_in(z, vl, 0, width, e)
+}
+
+// How many of n lanes of register r the first `unit` and their copies fill: up to the first lane that differs from the one `unit` before it.
+pub(crate) fn repeated(z: &[u8], vl: u32, r: u32, width: u32, n: u64, unit: u64) -> u64 {
     let mut e = unit;
     while e < n {
-        if lane(z, vl, width, e) != lane(z, vl, width, e - unit) {
+        if lane_in(z, vl, r, width, e) != lane_in(z, vl, r, width, e - unit) {
             return e;
         }
         e += 1;
@@ -32,11 +37,11 @@ pub(crate) fn repeated(z: &[u8], vl: u32, width: u32, n: u64, unit: u64) -> u64 
     e
 }
 
-// Whether lane `first` and those after it, of n, are zero.
-pub(crate) fn zero_from(z: &[u8], vl: u32, width: u32, n: u64, first: u64) -> bool {
+// Whether lane `first` of register r and those after it, of n, are zero.
+pub(crate) fn zero_from(z: &[u8], vl: u32, r: u32, width: u32, n: u64, first: u64) -> bool {
     let mut e = first;
     while e < n {
-        if lane(z, vl, width, e) != 0 {
+        if lane_in(z, vl, r, width, e) != 0 {
             return false;
         }
         e += 1;

@@ -1,4 +1,4 @@
-// The readings of document 01 that the checker does not settle, set up, stepped and printed beside what document 01 says.
+// The readings of document 01 that the checker does not settle, and of document 02, set up, stepped and printed beside what these say.
 mod columns;
 mod found;
 mod parts;
@@ -12,7 +12,7 @@ use parts::part;
 use rows::Row;
 use texts::Text;
 
-// How many rows came as document 01 says, of how many.
+// How many rows came as the documents say, of how many.
 struct Tally {
     as_said: u64,
     rows: u64,
@@ -26,7 +26,7 @@ fn line(word: Text, setup: &[u8], says: &[u8], came: Text) {
     column(came, 48);
 }
 
-// Runs a row and writes its line. The verdict is whether the text of what came is what document 01 says.
+// Runs a row and writes its line. The verdict is whether the text of what came is what a document says.
 fn reading<'a>(
     tally: Tally,
     row: Row,
@@ -52,7 +52,7 @@ fn reading<'a>(
     }
 }
 
-// A word that document 01 says is refused at any set-up, with its answer.
+// A word that is refused at any set-up, with its answer.
 fn refusal<'a>(tally: Tally, word: u32, says: &[u8], flash: &'a [u8], ram: &'a [u8]) -> Tally {
     reading(tally, rows::refused(word), b"VL 256", says, flash, ram)
 }
@@ -110,13 +110,21 @@ fn head() {
     line(
         Text::of(b"word"),
         b"set-up",
-        b"document 01 says",
+        b"document 01 or 02 says",
         Text::of(b"what came"),
     );
     io::write_all(1, b"verdict\n");
 }
 
-// Fills the memory once, for every row, and ends with how many came as document 01 says.
+// Request One of document 02: LD2R runs, and with L = 0 its word is undefined.
+fn request_one<'a>(so_far: Tally, flash: &'a [u8], ram: &'a [u8]) -> Tally {
+    let set = b"X0 = 2^64 - 2, last page mapped";
+    let says = b"Z0 16 at X0, Z1 16 at X0 + 1, rest zero; count 2";
+    let t = reading(so_far, rows::two(), set, says, flash, ram);
+    refusal(t, 0x4D20_C000, b"answer 3", flash, ram)
+}
+
+// Fills the memory once, for every row, and ends with how many came as the documents say.
 fn main() {
     let mut flash = [0; 65537];
     setups::fill(&mut flash, 0xf1);
@@ -124,10 +132,10 @@ fn main() {
     let mut ram = [0; 65537];
     setups::fill(&mut ram, 0xf2);
     head();
-    let tally = limits(table(&flash, &ram), &flash, &ram);
+    let tally = request_one(limits(table(&flash, &ram), &flash, &ram), &flash, &ram);
     io::write_all(1, b"\n");
     io::print_decimal(1, tally.as_said);
     io::write_all(1, b" of ");
     io::print_decimal(1, tally.rows);
-    io::write_all(1, b" readings as document 01 says\n");
+    io::write_all(1, b" readings as the documents say\n");
 }

@@ -1,4 +1,5 @@
-// The rows of document 01's "Readings to reproduce" that carry no star, and the sentence below them: what is set up.
+// The rows of document 01's "Readings to reproduce" that carry no star, the sentence below them, and what document 02 says of its words: what is
+// set up.
 use memory::PAGE_BYTES;
 
 // What a row speaks of where the load ran.
@@ -8,10 +9,11 @@ pub enum Tell {
     Only,
     Blocks,
     Bytes,
+    Both,
 }
 
 // What a row sets up: the word, the vector length, P0's first four bytes as a number, X0, how many bytes of each area are lent, and
-// the rights of flash's page 1. Then whether the row asks if a set-up is accepted, and what it speaks of.
+// the rights of flash's page 1. Then whether the word writes Z1 beside Z0, whether the row asks if a set-up is accepted, and what it speaks of.
 pub struct Row {
     pub word: u32,
     pub vl: u32,
@@ -20,6 +22,7 @@ pub struct Row {
     pub flash: usize,
     pub ram: usize,
     pub page1: u8,
+    pub two: bool,
     pub limit: bool,
     pub tell: Tell,
 }
@@ -37,6 +40,7 @@ fn plain(word: u32, tell: Tell) -> Row {
         flash: 8192,
         ram: PAGE_BYTES,
         page1: 0xff,
+        two: false,
         limit: false,
         tell,
     }
@@ -67,6 +71,14 @@ pub(crate) fn block() -> Row {
 pub(crate) fn replicate() -> Row {
     let mut row = plain(0x0DDF_C000, Tell::Bytes);
     row.x0 = 18446744073709551615;
+    row
+}
+
+// LD2R with Q = 1 from the last two bytes that there are: "4D60C000 was "outside" and now runs".
+pub(crate) fn two() -> Row {
+    let mut row = plain(0x4D60_C000, Tell::Both);
+    row.x0 = 18446744073709551614;
+    row.two = true;
     row
 }
 

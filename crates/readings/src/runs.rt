@@ -75,6 +75,7 @@ fn others_kept(now: &[u64; 33], before: &[u64; 33]) -> bool {
 fn carried<'a>(row: Row, z: &mut [u8], before: &[u8], flash: &'a [u8], ram: &'a [u8]) -> Text {
     let register = row.vl as usize / 8;
     let nz = least(32 * register, z.len());
+    let targets = if row.two { 2 * register } else { register };
     let mut x = setups::scalars(row.x0);
     let x_before = x;
     let p = setups::predicates(row.p0);
@@ -90,8 +91,8 @@ fn carried<'a>(row: Row, z: &mut [u8], before: &[u8], flash: &'a [u8], ram: &'a 
         result,
         x0: x[0],
         pc: std::num::wrapping_sub_u64(x[32], x_before[32]),
-        target_kept: kept(z, before, 0, register),
-        rest_kept: kept(z, before, register, nz) & others_kept(&x, &x_before),
+        targets_kept: kept(z, before, 0, targets),
+        rest_kept: kept(z, before, targets, nz) & others_kept(&x, &x_before),
     };
     phrases::described(row, seen, part(z, nz), flash, ram)
 }

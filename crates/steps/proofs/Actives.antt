@@ -5,7 +5,7 @@ use mathlib.Core.Bool.{Bool, true, false}
 use mathlib.Core.List.{List}
 use mathlib.Core.Logic.{_↔_}
 use Prim.Native.Nat.{ℕ, zero, suc, _*_, _/_, _%_, _^_, _≤_, _<_}
-use native.Mathlib.Nat.{mod-lt, mod-one, mod-eq-of-lt, zero-mul, zero-div, div-lt-iff-lt-mul}
+use native.Mathlib.Nat.{mod-lt, mod-eq-of-lt, zero-mul, zero-div, div-lt-iff-lt-mul}
 use native.Mathlib.Omega.{arith}
 use lib.Dec.{ltb, eqb, lit<}
 use lib.ListN.{drop}
@@ -22,7 +22,7 @@ use Rattle.words.specs.Ranges.{ShapeInRange}
 use Rattle.steps.specs.Benches.{Lent}
 use Rattle.steps.specs.Terms.{blockBytes}
 use Rattle.steps.specs.Plans.{spreadOf, planWith}
-use Rattle.steps.specs.Lanes.{predicateOf, governingBytes, bitOf, isActive, wanted, laneTakes, checksStack}
+use Rattle.steps.specs.Lanes.{predicateOf, governingBytes, bitOf, isActive, wanted, laneTakes, laneElement, checksStack}
 use Rattle.steps.specs.Said.{LengthAllowed, laneBytes, N, K, BitSet, ActiveAs, ChecksAs}
 use Rattle.steps.specs.Demand1.{WideAs}
 use Rattle.steps.specs.Demand2.{TakesAs}
@@ -102,7 +102,7 @@ module _ (l : Lent) (x : List ℕ) (allowed : LengthAllowed (l .settings .vl)) (
 
   pub active-exactly : (s : Shape) → (WideAs s → 256 ≤ l .settings .vl) → (e : ℕ) → Asked s e ↔ ActiveAs s l i e
   unfolding spreadOf wanted
-  active-exactly (Replicate q back) long e = (λ h. let k = h .0 in omega arith, λ h. (omega arith, refl))
+  active-exactly (Replicate q back) long e = (λ h. h .0, λ h. (h, refl))
   active-exactly (ByElement imm6) long e =
       let s = some-active l (plan (ByElement imm6)) (N l i) each-lane in
       (λ h. let k = h .0 in (omega arith, s .0 (h .1)), λ h. let k = h .0 in (omega arith, s .1 (h .1)))
@@ -121,37 +121,37 @@ module _ (l : Lent) (x : List ℕ) (allowed : LengthAllowed (l .settings .vl)) (
   checks-exactly (Contiguous o) long = some-active l (plan (Contiguous o)) (N l i) each-lane
   checks-exactly (Block wide o) long = some-active l (plan (Block wide o)) (K wide i) (each-own wide long)
 
-  -- lane k of the destination takes element e of the plan exactly where the scope says
-  pub takes-there : (s : Shape) → ShapeInRange i s → (WideAs s → 256 ≤ l .settings .vl) → (k e : ℕ) → k < N l i → TakesAs s l i k e
-      → (laneTakes (plan s) (governingBytes l (plan s)) k ≡ true) × (k % plan s .elements ≡ e)
-  unfolding spreadOf laneTakes
-  takes-there (Replicate q back) fine long k e h t =
+  -- lane k of destination j takes element e of the plan exactly where the scope says
+  pub takes-there : (s : Shape) → ShapeInRange i s → (WideAs s → 256 ≤ l .settings .vl) → (j k e : ℕ) → k < N l i → TakesAs s l i j k e
+      → (laneTakes (plan s) (governingBytes l (plan s)) k ≡ true) × (laneElement (plan s) j k ≡ e)
+  unfolding spreadOf laneTakes laneElement
+  takes-there (Replicate q back) fine long j k e h t =
       let n : ℕ = if eqb q 1 then 16 else 8 in
       let r = replicated-bytes q (fine .0) in
-      (rw (lt-ltb k (n / laneBytes i) (in-lanes (i .element .lane) n (eighth q) k .1 (rw r (t .1)))), mod-one k ∙ sym (t .0))
-  takes-there (ByElement imm6) fine long k e h t =
-      (and-both (ltb k (N l i)) _ (lt-ltb k _ h) (lane-active l (plan (ByElement imm6)) k (each-lane k h) .1 (t .1)), mod-one k ∙ sym (t .0))
-  takes-there (Contiguous o) fine long k e h t =
+      (rw (lt-ltb k (n / laneBytes i) (in-lanes (i .element .lane) n (eighth q) k .1 (rw r (t .1)))), sym (t .0))
+  takes-there (ByElement imm6) fine long j k e h t =
+      (and-both (ltb k (N l i)) _ (lt-ltb k _ h) (lane-active l (plan (ByElement imm6)) k (each-lane k h) .1 (t .1)), sym (t .0))
+  takes-there (Contiguous o) fine long j k e h t =
       let on = lane-active l (plan (Contiguous o)) k (each-lane k h) .1 (t .1) in
       (and-both (ltb k (N l i)) _ (lt-ltb k _ h) (rw (mod-eq-of-lt h) on), mod-eq-of-lt h ∙ sym (t .0))
-  takes-there (Block wide o) fine long k e h t = (
+  takes-there (Block wide o) fine long j k e h t = (
     and-both (ltb k (plan (Block wide o) .filled)) _ (lt-ltb k _ (div-lt-iff-lt-mul (own-some wide) .0 (t .1)))
         (lane-active l (plan (Block wide o)) (k % K wide i) (each-own wide long _ (mod-lt k (own-some wide))) .1 (t .2)),
     sym (t .0),
   )
 
-  pub there-takes : (s : Shape) → ShapeInRange i s → (WideAs s → 256 ≤ l .settings .vl) → (k : ℕ) → k < N l i
-      → laneTakes (plan s) (governingBytes l (plan s)) k ≡ true → TakesAs s l i k (k % plan s .elements)
-  unfolding spreadOf laneTakes
-  there-takes (Replicate q back) fine long k h t =
+  pub there-takes : (s : Shape) → ShapeInRange i s → (WideAs s → 256 ≤ l .settings .vl) → (j k : ℕ) → k < N l i
+      → laneTakes (plan s) (governingBytes l (plan s)) k ≡ true → TakesAs s l i j k (laneElement (plan s) j k)
+  unfolding spreadOf laneTakes laneElement
+  there-takes (Replicate q back) fine long j k h t =
       let n : ℕ = if eqb q 1 then 16 else 8 in
       let r = replicated-bytes q (fine .0) in
-      (mod-one k, rw r at (in-lanes (i .element .lane) n (eighth q) k .0 (ltb-true k _ (and-left (ltb k (n / laneBytes i)) _ t))))
-  there-takes (ByElement imm6) fine long k h t =
-      (mod-one k, lane-active l (plan (ByElement imm6)) k (each-lane k h) .0 (and-right (ltb k (N l i)) _ t))
-  there-takes (Contiguous o) fine long k h t =
+      (refl, rw r at (in-lanes (i .element .lane) n (eighth q) k .0 (ltb-true k _ (and-left (ltb k (n / laneBytes i)) _ t))))
+  there-takes (ByElement imm6) fine long j k h t =
+      (refl, lane-active l (plan (ByElement imm6)) k (each-lane k h) .0 (and-right (ltb k (N l i)) _ t))
+  there-takes (Contiguous o) fine long j k h t =
       (mod-eq-of-lt h, lane-active l (plan (Contiguous o)) k (each-lane k h) .0 (rw (mod-eq-of-lt h) at (and-right (ltb k (N l i)) _ t)))
-  there-takes (Block wide o) fine long k h t = (
+  there-takes (Block wide o) fine long j k h t = (
     refl,
     div-lt-iff-lt-mul (own-some wide) .1 (ltb-true k _ (and-left (ltb k (plan (Block wide o) .filled)) _ t)),
     lane-active l (plan (Block wide o)) (k % K wide i) (each-own wide long _ (mod-lt k (own-some wide))) .0
@@ -159,8 +159,8 @@ module _ (l : Lent) (x : List ℕ) (allowed : LengthAllowed (l .settings .vl)) (
   )
 
   -- and that element is active
-  pub takes-active : (s : Shape) (k e : ℕ) → k < N l i → TakesAs s l i k e → ActiveAs s l i e
-  takes-active (Replicate q back) k e h t = t .0
-  takes-active (ByElement imm6) k e h t = (t .0, (k, h, t .1))
-  takes-active (Contiguous o) k e h t = rw (t .0) (h, t .1)
-  takes-active (Block wide o) k e h t = rw (t .0) (mod-lt k (own-some wide), t .2)
+  pub takes-active : (s : Shape) (j k e : ℕ) → j < i .registers → k < N l i → TakesAs s l i j k e → ActiveAs s l i e
+  takes-active (Replicate q back) j k e d h t = rw (t .0) d
+  takes-active (ByElement imm6) j k e d h t = (t .0, (k, h, t .1))
+  takes-active (Contiguous o) j k e d h t = rw (t .0) (h, t .1)
+  takes-active (Block wide o) j k e d h t = rw (t .0) (mod-lt k (own-some wide), t .2)

@@ -4,13 +4,14 @@ use mathlib.Core.Path.{_≡_, refl, sym, ap, subst, _∙_}
 use mathlib.Core.Bool.{Bool, true, false}
 use mathlib.Core.List.{List, []}
 use mathlib.Core.Logic.{⊎-elim}
-use Prim.Native.Nat.{ℕ, _*_, _/_, _^_, _<_}
+use Prim.Native.Nat.{ℕ, _/_, _^_, _<_}
+use native.Mathlib.Omega.{arith}
 use lib.Dec.{eqb}
 use Rattle.ground.specs.Choices.{if_then_else_}
-use Rattle.ground.specs.Lists.{replaced}
 use Rattle.ground.specs.Sizes.{bytesOf}
 use Rattle.words.specs.Families.{readOf}
 use Rattle.words.proofs.Decodes.{insn-means}
+use Rattle.words.proofs.Ranges.{means-in-range}
 use Rattle.steps.specs.Insns.{Insn, Decoded, Outside, Undefined, Is}
 use Rattle.memory.specs.Areas.{Areas}
 use Rattle.memory.specs.Bytes.{lookOf}
@@ -22,8 +23,8 @@ use Rattle.memory.proofs.Elements.{reading-cong, reading-bad-cong}
 use Rattle.steps.specs.Benches.{Lent, Bench, areasIn}
 use Rattle.steps.specs.Answers.{Report, refusalReport}
 use Rattle.steps.specs.Plans.{planOf}
-use Rattle.steps.specs.Lanes.{governingBytes, wanted, elementAt}
-use Rattle.steps.specs.Outcomes.{Outcome, answersIn, answersOf, surveyOf, registerOf, scalarsAfter, benchAfter, outcomeOf}
+use Rattle.steps.specs.Lanes.{governingBytes, wanted, destinationsIn, elementAt}
+use Rattle.steps.specs.Outcomes.{Outcome, answersIn, answersOf, surveyOf, vectorsAfter, scalarsAfter, benchAfter, outcomeOf}
 use Rattle.steps.specs.Step.{Prepared, Stop, Go, plannedBy, plannedOf, atStack, preparedOf, carriedOut, stepOf}
 use Rattle.steps.specs.Said.{Accepted}
 use Rattle.steps.specs.Demand1.{Ready}
@@ -35,10 +36,9 @@ use Rattle.steps.specs.declared.Planned.the-variants as P
 use Rattle.steps.proofs.Accepts.{accepted-exactly}
 use Rattle.steps.proofs.Faults.{below-all}
 use Rattle.steps.proofs.Plans.{plan-in-range}
-use Rattle.steps.proofs.Depends.{same-survey, same-register}
+use Rattle.steps.proofs.Depends.{same-survey, same-vectors}
 use Rattle.steps.proofs.Gives.{ways}
 use Rattle.steps.proofs.Touches.{touched-by}
-use Rattle.steps.proofs.Runs.{in-range-of}
 
 module _ (l : Lent) (b : Bench) (l′ : Lent) (b′ : Bench) (accepted : Accepted l b) (accepted′ : Accepted l′ b′) (same : Same l b l′ b′) where
   abbrev s : Areas
@@ -100,15 +100,13 @@ module _ (l : Lent) (b : Bench) (l′ : Lent) (b′ : Bench) (accepted : Accepte
 
     some : 0 < p .elements
     some =
-        let fine = in-range-of w i (ready .defined .reads) in plan-in-range (l .settings .vl) (b .scalars) (accepted .allowed) i fine (i .shape)
+        let fine = means-in-range w i (ready .defined .reads) in plan-in-range (l .settings .vl) (b .scalars) (accepted .allowed) i fine (i .shape)
         (fine .shape) .some
 
     afters : SameBytes l w b l′ b′ → Same l (benchAfter (answersOf l b p) l b p) l′ (benchAfter (answersOf l′ b′ p) l′ b′ p)
     unfolding benchAfter
     afters bytes =
-        let r : (n : ℕ) → registerOf (answersOf l b p) p (governingBytes l p) n ≡ registerOf (answersOf l′ b′ p) p (governingBytes l′ p) n =
-        λ n. same-register (answersOf l b p) (answersOf l′ b′ p) p (governingBytes l p) some (λ e k t. same-answers bytes e (k, t)) n
-        ∙ ap (λ (g : List ℕ). registerOf (answersOf l′ b′ p) p g n) (same-governing p) in
+        let n = l .settings .vl / 8 in
         record {
           settings = same .settings;
           predicates = same .predicates;
@@ -116,9 +114,8 @@ module _ (l : Lent) (b : Bench) (l′ : Lent) (b′ : Bench) (accepted : Accepte
           flash = same .flash;
           ram = same .ram;
           vectors =
-              ap (replaced (b .vectors) (p .target * (l .settings .vl / 8)) (l .settings .vl / 8)) (r (l .settings .vl / 8))
-              ∙ (λ j. let n = same .settings j .vl / 8 in replaced (same .vectors j) (p .target * n) n
-              (registerOf (answersOf l′ b′ p) p (governingBytes l′ p) n));
+              same-vectors (answersOf l b p) (answersOf l′ b′ p) p (governingBytes l p) some (λ e k t. same-answers bytes e (k, t)) n (b .vectors) (destinationsIn p) (omega arith)
+              ∙ (λ j. vectorsAfter (answersOf l′ b′ p) p (same-governing p j) (same .settings j .vl / 8) (same .vectors j) (destinationsIn p));
           scalars = ap (scalarsAfter p) (same .scalars);
         }
 

@@ -1,5 +1,5 @@
 -- The count of element reads is the number of active elements, and there is one such number.
-use mathlib.Core.Path.{_≡_, refl, ap}
+use mathlib.Core.Path.{_≡_, refl, ap, _∙_}
 use mathlib.Core.Bool.{Bool, true, false}
 use mathlib.Core.Logic.{_↔_}
 use mathlib.Core.List.{List, [], _∷_}
@@ -37,6 +37,11 @@ many-most want i zero = omega arith
 many-most want i (suc n) =
     let ih = many-most want (i + 1) n in
     if-cases (λ (l : List ℕ). length l ≤ suc n) (want i) (i ∷ upFrom want (i + 1) n) (upFrom want (i + 1) n) (λ _. omega arith) (λ _. omega arith)
+
+-- all of them
+pub many-all : (want : ℕ → Bool) (n : ℕ) → ((e : ℕ) → want e ≡ true) → many want 0 n ≡ n
+many-all want zero h = refl
+many-all want (suc n) h = many-more want 0 n ∙ rw (h (0 + n), many-all want n h)
 
 pub many-counted : (want : ℕ → Bool) (P : ℕ → Type 0) (e : ℕ) → ((f : ℕ) → f < e → (want f ≡ true) ↔ P f) → Counted P e (many want 0 e)
 many-counted want P zero h = start

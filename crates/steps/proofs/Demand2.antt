@@ -15,14 +15,15 @@ use Rattle.steps.specs.Benches.{Lent, Bench}
 use Rattle.steps.specs.Answers.{numberOf, reportOf}
 use Rattle.steps.specs.Terms.{signed4, scalar}
 use Rattle.steps.specs.Plans.{spreadOf, planWith, planOf}
-use Rattle.steps.specs.Lanes.{governingBytes, asked, elementAt}
+use Rattle.steps.specs.Lanes.{governingBytes, wanted, asked, elementAt}
 use Rattle.steps.specs.Outcomes.{Outcome}
 use Rattle.steps.specs.Step.{stepOf, StepPromise}
 use Rattle.steps.specs.Said.{laneBytes, N, K, copies, LaneActive}
 use Rattle.steps.specs.Demand1.{Ready, AllReadable}
-use Rattle.steps.specs.Demand2.{TakesAs, laneIn, Leaves, Done}
+use Rattle.steps.specs.Demand2.{destination, TakesAs, laneIn, Leaves, Done}
 use Rattle.steps.specs.declared.StepResult.{StepResult}
-use Rattle.steps.proofs.Places.{signed-field, at-first, on-from, by-immediate, by-register}
+use Rattle.steps.proofs.Places.{signed-field, on-from, by-immediate, by-register}
+use Rattle.steps.proofs.Counts.{many-all}
 use Rattle.steps.proofs.Gives.{runs, ran-only}
 use Rattle.steps.proofs.Determined.{determined}
 use Rattle.steps.proofs.Keeps.{lent-kept}
@@ -79,10 +80,10 @@ module _ (l : Lent) (x : List ℕ) (i : Insn) where
   unfolding elementAt spreadOf
   ld1r-by-element imm6 h = own 0 h (omega arith)
 
-  -- one read at the base
-  pub ld1r : (q : ℕ) (back : Back) → i .shape ≡ Replicate q back → at 0 ≡ wrap (scalar x (i .base))
+  -- LD1R to LD4R: base + e × m, from the base itself on
+  pub replicated : (q : ℕ) (back : Back) → i .shape ≡ Replicate q back → (e : ℕ) → at e ≡ wrap (scalar x (i .base) + e * bytesOf (i .element .memory))
   unfolding elementAt spreadOf
-  ld1r q back h = own 0 h (at-first (scalar x (i .base)) 0 (bytesOf (i .element .memory)) refl)
+  replicated q back h e = own e h refl
 
 -- what the definition leaves of such a load
 pub leaves : (l : Lent) (w : ℕ) (b : Bench) (i : Insn) → Ready l w b i → AllReadable l b i → Leaves l b i (stepOf l w b .lent) (stepOf l w b .bench)
@@ -95,7 +96,7 @@ module _ (l : Lent) (w : ℕ) (b : Bench) (r : StepResult) (l₁ : Lent) (b₁ :
   by-promise P = subst P (sym (promise .ends))
 
   -- A load that is ready and can read every byte of its active elements leaves what document 01 says: each lane its extended
-  -- number or zero, the base, PC, and everything else as it was.
+  -- number or zero in every destination, the base, PC, and everything else as it was.
   pub demand-2 : (i : Insn) → Ready l w b i → AllReadable l b i → Leaves l b i l₁ b₁
   demand-2 i ready all = by-promise (λ (o : Outcome). Leaves l b i (o .lent) (o .bench)) (leaves l w b i ready all)
 
@@ -120,15 +121,23 @@ module _ (l : Lent) (w : ℕ) (b : Bench) (r : StepResult) (l₁ : Lent) (b₁ :
       let p = planOf (l .settings .vl) (b .scalars) i in
       by-promise (λ (o : Outcome). o .report .count ≡ length (asked p (governingBytes l p))) (ran-count l w b i ready all)
 
-  -- An inactive lane becomes zero; in a block load it is one of the block's own, and zero in each copy; bytes left over are zero. Of an
-  -- instruction that ran, and k one of its lanes:
-  module _ (i : Insn) (ready : Ready l w b i) (all : AllReadable l b i) (k : ℕ) (inside : k < N l i) where
-    -- what lane k of its register holds
-    abbrev lane : ℕ
-    lane = laneIn l (b₁ .vectors) (i .target) (laneBytes i) k
+  -- LD1R to LD4R: as many as registers.
+  pub replicate-count : (i : Insn) → Ready l w b i → AllReadable l b i → (q : ℕ) (back : Back) → i .shape ≡ Replicate q back → r .count ≡ i .registers
+  unfolding asked spreadOf wanted
+  replicate-count i ready all q back h =
+      let count : Shape → ℕ = λ s. let p = planWith i (spreadOf (l .settings .vl) (b .scalars) i s) in length (asked p (governingBytes l p)) in
+      demand-2-count i ready all ∙ ap count h ∙ many-all (λ e. true) (i .registers) (λ e. refl)
 
-    none : {s : Shape} → i .shape ≡ s → ((e : ℕ) → TakesAs s l i k e → ⊥) → lane ≡ 0
-    none {s} h q = demand-2 i ready all .zero k inside (λ e t. q e (subst (λ (u : Shape). TakesAs u l i k e) h t))
+  -- An inactive lane becomes zero; in a block load it is one of the block's own, and zero in each copy; bytes left over are zero. Of an
+  -- instruction that ran, j one of its destinations, and k one of its lanes:
+  module _ (i : Insn) (ready : Ready l w b i) (all : AllReadable l b i) (j : ℕ) (there : j < i .registers)
+      (k : ℕ) (inside : k < N l i) where
+    -- what lane k of the destination holds
+    abbrev lane : ℕ
+    lane = laneIn l (b₁ .vectors) (destination i j) (laneBytes i) k
+
+    none : {s : Shape} → i .shape ≡ s → ((e : ℕ) → TakesAs s l i j k e → ⊥) → lane ≡ 0
+    none {s} h q = demand-2 i ready all .zero j k there inside (λ e t. q e (subst (λ (u : Shape). TakesAs u l i j k e) h t))
 
     pub inactive-zero : (o : Offset) → i .shape ≡ Contiguous o → (LaneActive l i k → ⊥) → lane ≡ 0
     inactive-zero o h q = none h (λ e t. q (t .1))
@@ -142,6 +151,6 @@ module _ (l : Lent) (w : ℕ) (b : Bench) (r : StepResult) (l₁ : Lent) (b₁ :
     pub left-over-zero : (wide : Bool) (o : Offset) → i .shape ≡ Block wide o → copies l wide ≤ k / K wide i → lane ≡ 0
     left-over-zero wide o h q = none h (λ e t. let c = t .1 in omega arith)
 
-    -- LD1R: "the rest of the Z register becomes zero"
+    -- LD1R to LD4R: "the rest of the Z register becomes zero"
     pub rest-zero : (q : ℕ) (back : Back) → i .shape ≡ Replicate q back → 8 * 2 ^ q ≤ k * laneBytes i → lane ≡ 0
     rest-zero q back h g = none h (λ e t. let c = t .1 in omega arith)

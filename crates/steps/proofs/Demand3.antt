@@ -34,7 +34,7 @@ pub demand-3-faults : (a b : ℕ → Reading) (p : Plan) (pred : List ℕ)
     → ((e : ℕ) → e < p .elements → wanted p pred e ≡ true → troubleOf (a e) ≡ troubleOf (b e)) → surveyOf a p pred ≡ surveyOf b p pred
 demand-3-faults a b p pred = same-survey a b p pred
 
--- and all that it leaves, only on the answers to those elements.
+-- and all that it leaves, in every destination and elsewhere, only on the answers to those elements.
 pub demand-3-apart : (a b : ℕ → Reading) (l : Lent) (before : Bench) (p : Plan) → 0 < p .elements
     → ((e : ℕ) → e < p .elements → wanted p (governingBytes l p) e ≡ true → a e ≡ b e) → outcomeOf a l before p ≡ outcomeOf b l before p
 demand-3-apart a b l before p some = same-outcome a b l before p some

@@ -4,7 +4,7 @@ use mathlib.Core.Path.{_≡_, refl, ap}
 use mathlib.Core.Bool.{Bool, true}
 use mathlib.Core.List.{List}
 use mathlib.Core.Logic.{⊎-elim}
-use Prim.Native.Nat.{ℕ, _+_, _/_, _%_, _<_}
+use Prim.Native.Nat.{ℕ, zero, suc, _+_, _/_, _≤_, _<_}
 use native.Mathlib.Nat.{mod-lt}
 use native.Mathlib.Omega.{arith}
 use lib.Dec.{ltb}
@@ -16,8 +16,8 @@ use Rattle.ground.specs.Sizes.{bytesOf}
 use Rattle.memory.specs.Troubles.{troubleOf}
 use Rattle.memory.specs.declared.Reading.{Reading}
 use Rattle.steps.specs.Benches.{Lent, Bench}
-use Rattle.steps.specs.Lanes.{governingBytes, isActive, wantedBy, wanted, asked, mayTakeBy, laneTakes}
-use Rattle.steps.specs.Outcomes.{walk, surveyOf, laneValue, registerByte, registerOf, benchAfter, outcomeOf}
+use Rattle.steps.specs.Lanes.{governingBytes, isActive, wantedBy, wanted, asked, mayTakeBy, laneTakes, elementBy, laneElement, destinationsBy, destinationsIn}
+use Rattle.steps.specs.Outcomes.{walk, surveyOf, laneValue, registerByte, registerOf, vectorsAfter, benchAfter, outcomeOf}
 use Rattle.steps.specs.declared.Rule.{Rule}
 use Rattle.steps.specs.declared.Rule.the-variants.{Always, LaneBit, ElementBit}
 use Rattle.steps.specs.declared.Plan.{Plan}
@@ -38,30 +38,40 @@ module _ (a b : ℕ → Reading) (p : Plan) (pred : List ℕ) where
   unfolding surveyOf asked
   same-survey h = walk-same a b (wanted p pred) (p .elements) h
 
-  -- the element that a lane takes is asked for
+  -- the element that a lane of a destination takes is asked for
   module _ (some : 0 < p .elements) where
-    by-rule : (r : Rule) (l : ℕ) → l < p .filled → mayTakeBy p pred r l ≡ true → wantedBy p pred r (l % p .elements) ≡ true
-    by-rule Always l k t = refl
-    by-rule LaneBit l k t = any-of (isActive p pred) (p .filled) l k t
-    by-rule ElementBit l k t = t
+    abbrev Asked : Rule → ℕ → Type 0
+    Asked r e = (e < p .elements) × (wantedBy p pred r e ≡ true)
 
-    pub takes-wanted : (l : ℕ) → laneTakes p pred l ≡ true → (l % p .elements < p .elements) × (wanted p pred (l % p .elements) ≡ true)
-    unfolding laneTakes wanted
-    takes-wanted l t =
-        (mod-lt l some, by-rule (p .rule) l (ltb-true l (p .filled) (and-left (ltb l (p .filled)) _ t)) (and-right (ltb l (p .filled)) _ t))
+    by-rule : (r : Rule) (j l : ℕ) → j < destinationsBy r (p .elements) → l < p .filled → mayTakeBy p pred r l ≡ true
+        → Asked r (elementBy r (p .elements) j l)
+    by-rule Always j l h k t = (h, refl)
+    by-rule LaneBit j l h k t = (some, any-of (isActive p pred) (p .filled) l k t)
+    by-rule ElementBit j l h k t = (mod-lt l some, t)
+
+    pub takes-wanted : (j l : ℕ) → j < destinationsIn p → laneTakes p pred l ≡ true → (laneElement p j l < p .elements) × (wanted p pred (laneElement p j l) ≡ true)
+    unfolding laneTakes wanted laneElement destinationsIn
+    takes-wanted j l h t =
+        by-rule (p .rule) j l h (ltb-true l (p .filled) (and-left (ltb l (p .filled)) _ t)) (and-right (ltb l (p .filled)) _ t)
 
     module _ (same : (e : ℕ) → e < p .elements → wanted p pred e ≡ true → a e ≡ b e) where
-      same-lane : (l : ℕ) → laneValue a p pred l ≡ laneValue b p pred l
+      same-lane : (j l : ℕ) → j < destinationsIn p → laneValue a p pred j l ≡ laneValue b p pred j l
       unfolding laneValue
-      same-lane l = if-cong (laneTakes p pred l) (λ t. let w = takes-wanted l t in rw (same _ (w .0) (w .1))) (λ _. refl)
+      same-lane j l h = if-cong (laneTakes p pred l) (λ t. let w = takes-wanted j l h t in rw (same _ (w .0) (w .1))) (λ _. refl)
 
-      pub same-register : (n : ℕ) → registerOf a p pred n ≡ registerOf b p pred n
+      pub same-register : (j n : ℕ) → j < destinationsIn p → registerOf a p pred j n ≡ registerOf b p pred j n
       unfolding registerOf registerByte
-      same-register n = listed-cong _ _ 0 n (λ i _ _. rw (same-lane (i / bytesOf (p .lane))))
+      same-register j n h = listed-cong _ _ 0 n (λ i _ _. rw (same-lane j (i / bytesOf (p .lane)) h))
+
+      -- so each destination is the same, and the file
+      pub same-vectors : (n : ℕ) (z : List ℕ) (k : ℕ) → k ≤ destinationsIn p → vectorsAfter a p pred n z k ≡ vectorsAfter b p pred n z k
+      unfolding vectorsAfter
+      same-vectors n z zero h = refl
+      same-vectors n z (suc k) h = rw (same-vectors n z k (omega arith), same-register k n h)
 
 -- the whole outcome, over any two answers
 pub same-outcome : (a b : ℕ → Reading) (l : Lent) (before : Bench) (p : Plan) → 0 < p .elements
     → ((e : ℕ) → e < p .elements → wanted p (governingBytes l p) e ≡ true → a e ≡ b e) → outcomeOf a l before p ≡ outcomeOf b l before p
 unfolding outcomeOf benchAfter
 same-outcome a b l before p some same =
-    rw (same-survey a b p (governingBytes l p) (λ e k w. ap troubleOf (same e k w)), same-register a b p (governingBytes l p) some same (l .settings .vl / 8))
+    rw (same-survey a b p (governingBytes l p) (λ e k w. ap troubleOf (same e k w)), same-vectors a b p (governingBytes l p) some same _ _ (destinationsIn p) (omega arith))

@@ -3,16 +3,17 @@
 use mathlib.Core.Path.{_≡_, refl, ap}
 use mathlib.Core.Bool.{Bool, true, false}
 use mathlib.Core.Logic.{⊎-elim}
-use Prim.Native.Nat.{ℕ, suc, _+_, _-_, _*_, _/_, _%_, _^_, _<_}
-use native.Mathlib.Nat.{mod-lt, div-add-mod', div-lt-iff-lt-mul, suc-mul, add-assoc}
+use Prim.Native.Nat.{ℕ, _+_, _-_, _*_, _/_, _%_, _^_, _<_}
+use native.Mathlib.Nat.{mod-lt, div-add-mod', div-lt-iff-lt-mul, add-assoc}
 use native.Mathlib.Omega.{arith}
-use lib.Dec.{eqb, ltb, leb}
+use lib.Dec.{eqb, ltb}
 use lib.ListN.{getD}
 use lib.Seq.{ext-getD}
-use borrow.Author.Tests.{eqb-true, eqb-false, ltb-true, ltb-false, leb-true, leb-false}
-use Rattle.ground.proofs.Laws.{true-or-false, never, only-one, little-tells}
-use Rattle.ground.specs.Lists.{little}
+use borrow.Author.Tests.{eq-eqb, eqb-true, eqb-false, ltb-true, ltb-false}
+use Rattle.ground.proofs.Laws.{true-or-false, never, only-one, any-of, any-at, little-tells}
+use Rattle.ground.specs.Lists.{anyBelow, little}
 use Rattle.ground.proofs.Sizes.{bytes-some, register-room, register-lanes}
+use Rattle.words.proofs.Ranges.{means-in-range}
 use Rattle.steps.specs.Insns.{Insn}
 use Rattle.memory.specs.Addresses.{wrap}
 use Rattle.memory.specs.Areas.{Area}
@@ -23,14 +24,13 @@ use Rattle.memory.proofs.Looks.{right-byte}
 use Rattle.steps.specs.Benches.{Lent, Bench, InTypes, areasIn}
 use Rattle.steps.specs.Terms.{scalar}
 use Rattle.steps.specs.Plans.{planOf}
-use Rattle.steps.specs.Lanes.{governingBytes, laneTakes}
+use Rattle.steps.specs.Lanes.{governingBytes, laneTakes, laneElement}
 use Rattle.steps.specs.Said.{m, laneBytes, N, Active, byteAt}
 use Rattle.steps.specs.Demand1.{Ready, AllReadable}
-use Rattle.steps.specs.Demand2.{Takes, laneIn, Extends, Contains, ElementValue, WrittenBack, Leaves}
+use Rattle.steps.specs.Demand2.{destination, IsDestination, Takes, laneIn, Extends, Contains, ElementValue, WrittenBack, Leaves}
 use Rattle.steps.specs.declared.Plan.{Plan}
 use Rattle.steps.proofs.Fields.{adds-back, back-adds}
 use Rattle.steps.proofs.Actives.{takes-there, there-takes, takes-active}
-use Rattle.steps.proofs.Runs.{in-range-of}
 
 -- an extended number is one number
 extended-once : (signed : Bool) (bits lane v x y : ℕ) → Extends signed bits lane v x → Extends signed bits lane v y → x ≡ y
@@ -71,52 +71,56 @@ module _ (l : Lent) (w : ℕ) (b : Bench) (i : Insn) (ready : Ready l w b i) (al
   Back = WrittenBack (b .scalars) i
 
   module _ (l₁ l₂ : Lent) (b₁ b₂ : Bench) (p : Leaves l b i l₁ b₁) (q : Leaves l b i l₂ b₂) where
-    same-lane : (k : ℕ) → k < N l i → laneIn l (b₁ .vectors) (i .target) (laneBytes i) k ≡ laneIn l (b₂ .vectors) (i .target) (laneBytes i) k
-    same-lane k h =
+    -- lane k of destination j
+    same-lane : (j k : ℕ) → j < i .registers → k < N l i
+        → laneIn l (b₁ .vectors) (destination i j) (laneBytes i) k ≡ laneIn l (b₂ .vectors) (destination i j) (laneBytes i) k
+    same-lane j k d h =
         let a = ready .defined .accepted in
         let long = ready .defined .long in
-        let fine = in-range-of w i (ready .defined .reads) in
+        let fine = means-in-range w i (ready .defined .reads) in
         ⊎-elim
         (λ t.
-        let e = k % plan .elements in
-        let u = there-takes l (b .scalars) (a .allowed) i (i .shape) (fine .shape) long k h t in
-        let v = value e (takes-active l (b .scalars) (a .allowed) i (i .shape) k e h u) in
-        extended-once (i .element .signed) _ _ _ _ _ (p .lane k e _ h u v) (q .lane k e _ h u v))
+        let e = laneElement plan j k in
+        let u = there-takes l (b .scalars) (a .allowed) i (i .shape) (fine .shape) long j k h t in
+        let v = value e (takes-active l (b .scalars) (a .allowed) i (i .shape) j k e d h u) in
+        extended-once (i .element .signed) _ _ _ _ _ (p .lane j k e _ d h u v) (q .lane j k e _ d h u v))
         (λ t.
-        let none : (e : ℕ) → Takes l i k e → ⊥ =
-        λ e u. never (takes-there l (b .scalars) (a .allowed) i (i .shape) (fine .shape) long k e h u .0) t in
-        only-one (p .zero k h none) (q .zero k h none))
+        let none : (e : ℕ) → Takes l i j k e → ⊥ =
+        λ e u. never (takes-there l (b .scalars) (a .allowed) i (i .shape) (fine .shape) long j k e h u .0) t in
+        only-one (p .zero j k d h none) (q .zero j k d h none))
         (true-or-false (laneTakes plan (governingBytes l plan) k))
 
-    -- a byte of the destination is a digit of its lane
-    in-lane : (j : ℕ) → j < n → getD (b₁ .vectors) (i .target * n + j) 0 ≡ getD (b₂ .vectors) (i .target * n + j) 0
-    in-lane j h =
-        let t = i .target * n in
-        let k = j / laneBytes i in
+    -- byte c of destination j is a digit of its lane
+    in-lane : (j : ℕ) → j < i .registers → (c : ℕ) → c < n → getD (b₁ .vectors) (destination i j * n + c) 0 ≡ getD (b₂ .vectors) (destination i j * n + c) 0
+    in-lane j d c h =
+        let t = destination i j * n in
+        let k = c / laneBytes i in
         let some = bytes-some (i .element .lane) in
         let whole = register-lanes (i .element .lane) (l .settings .vl) (ready .defined .accepted .allowed .multiple) in
         let o : k < N l i = div-lt-iff-lt-mul some .1 (rw whole h) in
         let there : (x : ℕ) → x < laneBytes i → k * laneBytes i + x < n = λ x u. omega (arith, register-room (l .settings .vl) (laneBytes i) k o) in
-        let at : t + k * laneBytes i + j % laneBytes i ≡ t + j = omega (arith, div-add-mod' j (laneBytes i)) in
+        let at : t + k * laneBytes i + c % laneBytes i ≡ t + c = omega (arith, div-add-mod' c (laneBytes i)) in
         rw at at (little-tells (λ x. getD (b₁ .vectors) x 0) (λ x. getD (b₂ .vectors) x 0) (t + k * laneBytes i) (t + k * laneBytes i) (laneBytes i)
-        (λ x u. rw add-assoc (p .bytes (k * laneBytes i + x) (there x u)))
-        (λ x u. rw add-assoc (q .bytes (k * laneBytes i + x) (there x u)))
-        (same-lane k o) (j % laneBytes i) (mod-lt j some))
+        (λ x u. rw add-assoc (p .bytes _ (j, d, refl) (k * laneBytes i + x) (there x u)))
+        (λ x u. rw add-assoc (q .bytes _ (j, d, refl) (k * laneBytes i + x) (there x u)))
+        (same-lane j k d o) (c % laneBytes i) (mod-lt c some))
+
+    -- a register is one of the destinations, or another
+    same-register : (r c : ℕ) → c < n → getD (b₁ .vectors) (r * n + c) 0 ≡ getD (b₂ .vectors) (r * n + c) 0
+    same-register r c h =
+        let is : ℕ → Bool = λ j. eqb r (destination i j) in
+        ⊎-elim
+        (λ t. let d = any-at is (i .registers) t in rw (eqb-true r _ (d .2)) (in-lane (d .0) (d .1) c h))
+        (λ t.
+        let none : IsDestination i r → ⊥ = λ d. never (any-of is (i .registers) (d .0) (d .1) (eq-eqb r _ (d .2))) t in
+        only-one (p .registers r none c h) (q .registers r none c h))
+        (true-or-false (anyBelow is (i .registers)))
 
     same-byte : (j : ℕ) → getD (b₁ .vectors) j 0 ≡ getD (b₂ .vectors) j 0
     same-byte j =
-        ⊎-elim
-        (λ t. let h = ltb-true j (i .target * n) t in only-one (p .below j h) (q .below j h))
-        (λ t.
-        let h = ltb-false j (i .target * n) t in
-        ⊎-elim
-        (λ u. let g = leb-true (suc (i .target) * n) j u in only-one (p .above j g) (q .above j g))
-        (λ u.
-        let g = leb-false (suc (i .target) * n) j u in
-        let at : i .target * n + (j - i .target * n) ≡ j = omega arith in
-        rw at at (in-lane (j - i .target * n) (omega (arith, suc-mul (i .target) n))))
-        (true-or-false (leb (suc (i .target) * n) j)))
-        (true-or-false (ltb j (i .target * n)))
+        let some : 0 < n = let k = ready .defined .accepted .allowed .least in omega arith in
+        let at : j / n * n + j % n ≡ j = div-add-mod' j n in
+        rw at at (same-register (j / n) (j % n) (mod-lt j some))
 
     -- a scalar is PC, the base where it is written back, or another
     same-other : (k : ℕ) → (k ≡ 32 → ⊥) → scalar (b₁ .scalars) k ≡ scalar (b₂ .scalars) k

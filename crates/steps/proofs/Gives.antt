@@ -12,6 +12,7 @@ use Rattle.ground.proofs.Laws.{true-or-false, never, off, and-other, and-left, 
 use Rattle.words.specs.Families.{readOf}
 use Rattle.words.proofs.Decodes.{means-read, outside-exactly, undefined-means, insn-means}
 use Rattle.words.specs.Layouts.{Means}
+use Rattle.words.proofs.Ranges.{means-in-range}
 use Rattle.steps.specs.Insns.{Insn, Decoded, Outside, Undefined, Is}
 use Rattle.memory.specs.declared.Fault.{Fault}
 use Rattle.memory.specs.declared.Fault.the-variants.{Nowhere, Denied}
@@ -50,13 +51,17 @@ module _ (l : Lent) (w : ℕ) (b : Bench) where
   faulted i ready Nowhere e k n f c = S.no-memory i e k ready f c
   faulted i ready Denied e k n f c = S.denied i e k ready f c
 
+  -- it loads few registers
+  few-registers : (i : Insn) → Ready l w b i → i .registers ≤ 4
+  few-registers i ready = means-in-range w i (ready .defined .reads) .few
+
   carried : (i : Insn) → Ready l w b i → Says (Go (plan i))
   unfolding outcomeOf
   carried i ready =
       ⊎-elim
       (λ c. subst (Given l w b)
       (sym (survey-is l b i a long ∙ walk-clear (want l b i a long) (answer l b i a long) 0 0 _ c ∙ ap (λ (n : ℕ). reportWith 0 n 0 0) (zero-add _)))
-      (S.ran i ready (all-readable l b i a long c) (counts-all l b i a long)))
+      (S.ran i ready (all-readable l b i a long c) (counts-all l b i a long (few-registers i ready))))
       (λ s.
       let f = stops-first l b i a long s in
       let t = s .to in
@@ -194,7 +199,7 @@ module _ (l : Lent) (w : ℕ) (b : Bench) where
   meant small r (S.ran i ready all c) =
       let a = ready .defined .accepted in
       let long = ready .defined .long in
-      surveyed i ready _ (survey-clear l b i a long all ∙ ap (λ (n : ℕ). reportWith 0 n 0 0) (counted-once (Active l i) (counts-all l b i a long) c))
+      surveyed i ready _ (survey-clear l b i a long all ∙ ap (λ (n : ℕ). reportWith 0 n 0 0) (counted-once (Active l i) (counts-all l b i a long (few-registers i ready)) c))
   meant small r (S.set-up refused) = rw (off (isAccepted l b) (λ t. refused (accepted-exactly l b .0 t)))
   meant small r (S.outside a e) = told-by _ _ (evaluated Outside a (outside-exactly w small .1 e)) refl
   meant small r (S.undefined a e) = told-by _ _ (evaluated Undefined a (means-read w Undefined e)) refl
@@ -253,7 +258,7 @@ module _ (l : Lent) (w : ℕ) (b : Bench) where
   fault-few i r e n q c =
       let a = r .defined .accepted in
       let h = asks l b i a (r .defined .long) e .1 q .0 in
-      omega (arith, counted-most (Active l i) c, elements-few (l .settings .vl) (b .scalars) i (i .shape) (a .allowed .largest), h)
+      omega (arith, counted-most (Active l i) c, elements-few (l .settings .vl) (b .scalars) i (i .shape) (few-registers i r) (a .allowed .largest), h)
 
   few-of : (r : Report) → Given l w b r → r .count ≤ elementLimit
   few-of r (S.ran i ready all c) = counted-most (Active l i) c

@@ -20,6 +20,7 @@ use Rattle.words.specs.Ranges.{ShapeInRange}
 use Rattle.memory.specs.Addresses.{wrapℤ}
 use Rattle.memory.specs.Areas.{Area, Areas}
 use Rattle.memory.specs.Said.{Holds, Right, AreasAccepted, OneOf, in-flash, in-ram, Both, flashes, rams}
+use Rattle.words.proofs.Ranges.{means-in-range}
 use Rattle.steps.specs.Insns.{Insn, Shape, Replicate, ByElement, Contiguous, Block, Governing, None, By, Imm, Reg}
 use Rattle.steps.specs.Benches.{Lent, Bench, InTypes, areasIn}
 use Rattle.steps.specs.Answers.{Report, numberOf}
@@ -29,12 +30,11 @@ use Rattle.steps.specs.Step.{stepOf, StepPromise}
 use Rattle.steps.specs.declared.StepResult.{StepResult}
 use Rattle.steps.specs.Said.{LengthAllowed, Accepted, m, laneBytes, N, K, copies, BitSet, LaneActive, ActiveAs, Active, liesAs, byteAt, CanRead}
 use Rattle.steps.specs.Demand1.{WideAs, Ready, AllReadable}
-use Rattle.steps.specs.Demand2.{TakesAs, laneIn, Extends, Contains}
+use Rattle.steps.specs.Demand2.{destination, TakesAs, laneIn, Extends, Contains}
 use Rattle.steps.specs.Demand3.{Same, Touched, SameRights, SameBytes}
 use Rattle.steps.specs.Asks.{lentWith, benchWith}
 use Rattle.steps.proofs.Actives.{block-bytes, block-some}
 use Rattle.steps.proofs.Gives.{ran-only}
-use Rattle.steps.proofs.Runs.{in-range-of}
 use Rattle.steps.proofs.Determined.{byte, contains, value}
 use Rattle.steps.proofs.Touches.{same-exactly, ready-reads, ran-as, touched-readable}
 use Rattle.steps.proofs.Agrees.{same-report, same-after}
@@ -57,7 +57,7 @@ extended-tells true k n v v′ x h p q =
     (true-or-false (ltb v′ half)))
     (true-or-false (ltb v half))
 
--- every active element is taken by a lane of the register
+-- every active element is taken by a lane of a destination
 module _ (l : Lent) (allowed : LengthAllowed (l .settings .vl)) (i : Insn) where
   in-register : (k : ℕ) → k * laneBytes i < l .settings .vl / 8 → k < N l i
   in-register k h = rw (← div-div-eq-div-mul) (in-lanes (i .element .lane) (l .settings .vl / 8) (let d = allowed .multiple in omega arith) k .1 h)
@@ -66,19 +66,23 @@ module _ (l : Lent) (allowed : LengthAllowed (l .settings .vl)) (i : Insn) where
   some-copy false long = let h = allowed .least in (omega arith, omega arith)
   some-copy true long = let h = long refl in (omega arith, omega arith)
 
-  taken : (s : Shape) → ShapeInRange i s → (WideAs s → 256 ≤ l .settings .vl) → (e : ℕ) → ActiveAs s l i e → (k : ℕ) × (k < N l i) × TakesAs s l i k e
+  single : i .registers ≡ 1 → 0 < i .registers
+  single h = omega arith
+
+  taken : (s : Shape) → ShapeInRange i s → (WideAs s → 256 ≤ l .settings .vl) → (e : ℕ) → ActiveAs s l i e
+      → (j : ℕ) × (j < i .registers) × (k : ℕ) × (k < N l i) × TakesAs s l i j k e
   taken (Replicate q back) fine long e h =
       let least = allowed .least in
-      (0, in-register 0 (rw zero-mul (omega arith)), (h, rw zero-mul (omega (arith, pow-pos q))))
-  taken (ByElement imm6) fine long e h = (h .1 .0, h .1 .1, (h .0, h .1 .2))
-  taken (Contiguous o) fine long e h = (e, h .0, (refl, h .1))
+      (e, h, 0, in-register 0 (rw zero-mul (omega arith)), (refl, rw zero-mul (omega (arith, pow-pos q))))
+  taken (ByElement imm6) fine long e h = (0, single (fine .3), h .1 .0, h .1 .1, (h .0, h .1 .2))
+  taken (Contiguous o) fine long e h = (0, single (fine .3), e, h .0, (refl, h .1))
   taken (Block wide o) fine long e h =
       let own = mod-eq-of-lt (h .0) in
       let room = in-lanes (i .element .lane) (blockBytes wide) (block-bytes wide .0) e .0 (h .0) in
       let c = some-copy wide long in
       let fits : e < copies l wide * K wide i = omega (arith, h .0, mul-le-mul-right (K wide i) (c .0)) in
       let copied = div-lt-iff-lt-mul (block-some wide (i .element .lane)) .1 fits in
-      (e, in-register e (omega (arith, room, c .1)), (sym own, copied, subst (LaneActive l i) (sym own) (h .1)))
+      (0, single (fine .3), e, in-register e (omega (arith, room, c .1)), (sym own, copied, subst (LaneActive l i) (sym own) (h .1)))
 
 -- accepted areas: an address is in one of them
 own-area : (s : Areas) → AreasAccepted s → (a : ℕ) {r r₁ : Area} → OneOf s r → OneOf s r₁ → Holds r a → Holds r₁ a → r₁ ≡ r
@@ -115,11 +119,11 @@ module _ (l : Lent) (flash flashRights ramRights : List ℕ) (i : Insn) where
   active-too (Contiguous o) e h = (h .0, lane-too e (h .1))
   active-too (Block wide o) e h = (h .0, lane-too e (h .1))
 
-  takes-too : (t : Shape) (k e : ℕ) → TakesAs t l i k e → TakesAs t r i k e
-  takes-too (Replicate q back) k e h = h
-  takes-too (ByElement imm6) k e h = (h .0, lane-too k (h .1))
-  takes-too (Contiguous o) k e h = (h .0, lane-too k (h .1))
-  takes-too (Block wide o) k e h = (h .0, h .1, lane-too (k % K wide i) (h .2))
+  takes-too : (t : Shape) (j k e : ℕ) → TakesAs t l i j k e → TakesAs t r i j k e
+  takes-too (Replicate q back) j k e h = h
+  takes-too (ByElement imm6) j k e h = (h .0, lane-too k (h .1))
+  takes-too (Contiguous o) j k e h = (h .0, lane-too k (h .1))
+  takes-too (Block wide o) j k e h = (h .0, h .1, lane-too (k % K wide i) (h .2))
 
   lies-too : (x : List ℕ) (t : Shape) (e : ℕ) → liesAs t l x i e ≡ liesAs t r x i e
   lies-too x (Replicate q back) e = refl
@@ -203,14 +207,14 @@ module _ (l : Lent) (w : ℕ) (b : Bench) (flash flashRights ram ramRights : Lis
 
     same-number : little first 0 (m i) ≡ little second 0 (m i)
     same-number =
-        let fine = in-range-of w i (g .0 .defined .reads) in
-        let k = taken l (g .0 .defined .accepted .allowed) i (i .shape) (fine .shape) (g .0 .defined .long) e active in
-        let too = takes-too l flash flashRights ramRights i (i .shape) (k .0) e (k .2) in
-        let x = leaves l w b i (g .0) (g .1) .lane (k .0) e _ (k .1) (k .2) (value l w b i (g .0) (g .1) came e active) in
-        let y = leaves l′ w b′ i (g′ .0) (g′ .1) .lane (k .0) e _ (k .1) too (value l′ w b′ i (g′ .0) (g′ .1) came′ e active′) in
+        let fine = means-in-range w i (g .0 .defined .reads) in
+        let t = taken l (g .0 .defined .accepted .allowed) i (i .shape) (fine .shape) (g .0 .defined .long) e active in
+        let too = takes-too l flash flashRights ramRights i (i .shape) (t .0) (t .2) e (t .4) in
+        let x = leaves l w b i (g .0) (g .1) .lane (t .0) (t .2) e _ (t .1) (t .3) (t .4) (value l w b i (g .0) (g .1) came e active) in
+        let y = leaves l′ w b′ i (g′ .0) (g′ .1) .lane (t .0) (t .2) e _ (t .1) (t .3) too (value l′ w b′ i (g′ .0) (g′ .1) came′ e active′) in
         extended-tells (i .element .signed) (m i) (laneBytes i) _ _ _ (fine .narrower) x
         (subst (λ (z : List ℕ). Extends (i .element .signed) (8 * m i) (8 * laneBytes i) (little second 0 (m i))
-        (laneIn l z (i .target) (laneBytes i) (k .0))) (sym vectors) y)
+        (laneIn l z (destination i (t .0)) (laneBytes i) (t .2))) (sym vectors) y)
 
     same-bytes : (j : ℕ) → j < m i → first j ≡ second j
     same-bytes j h =

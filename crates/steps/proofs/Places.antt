@@ -1,4 +1,4 @@
--- Where an element lies: the plan's start + e × size is the scope of work's own formula, in every family.
+-- Where an element lies: the plan's start + e × size is the scope of work's own formula, in every family; and which registers the destinations are.
 use mathlib.Core.List.{List}
 use mathlib.Core.Path.{_≡_, refl, sym, ap, _∙_}
 use Prim.Native.Nat.{ℕ, zero, suc, _+_, _-_, _*_, _%_, _≤_, _<_}
@@ -6,9 +6,9 @@ use native.Mathlib.Nat.{add-zero, zero-mul, mul-assoc, add-mul, suc-mul}
 use native.Mathlib.Omega.{arith}
 use mathlib.Core.Logic.{⊎-elim}
 use lib.IntN.{ℤ, pos, negsuc, subℕ, negℤ, _+ℤ_, _*ℤ_, sucℤ-*ℤ, +ℤ-idr, +ℤ-sucℤ, +ℤ-assoc}
-use lib.Dec.{ltb}
-use borrow.Author.Tests.{lt-ltb, le-ltb, ltb-true, ltb-false}
-use Rattle.ground.proofs.Laws.{true-or-false}
+use lib.Dec.{ltb, eqb}
+use borrow.Author.Tests.{lt-ltb, le-ltb, ltb-true, ltb-false, eqb-true, eqb-false}
+use Rattle.ground.proofs.Laws.{true-or-false, if-cases}
 use Rattle.steps.specs.Insns.{Insn, Shape, Replicate, ByElement, Contiguous, Block, Imm, Reg}
 use Rattle.memory.proofs.Moves.{wrap-on}
 use Rattle.memory.specs.Addresses.{wrap, wrapℤ, plusOf, movedOf}
@@ -17,6 +17,7 @@ use Rattle.steps.specs.Terms.{scalar, signed4, blockBytes}
 use Rattle.steps.specs.Plans.{spreadOf, planWith, planOf}
 use Rattle.steps.specs.Lanes.{elementAt}
 use Rattle.steps.specs.Said.{m, N, ActiveAs, Active, liesAs, lies, byteAt}
+use Rattle.steps.specs.Demand2.{destination}
 
 -- (s + e) × m
 distributed : (s : ℤ) (e k : ℕ) → (s +ℤ pos e) *ℤ pos k ≡ s *ℤ pos k +ℤ pos (e * k)
@@ -61,7 +62,7 @@ module _ (l : Lent) (x : List ℕ) (i : Insn) where
   -- every active element lies where the scope of work says
   element-lies : (s : Shape) (e : ℕ) → ActiveAs s l i e → elementAt (planWith i (spreadOf (l .settings .vl) x i s)) e ≡ wrapℤ (liesAs s l x i e)
   unfolding elementAt spreadOf
-  element-lies (Replicate q back) e a = at-first (scalar x (i .base)) e (m i) a
+  element-lies (Replicate q back) e a = refl
   element-lies (ByElement imm6) e a = at-first (wrap (scalar x (i .base) + imm6 * m i)) e _ (a .0) ∙ omega arith
   element-lies (Contiguous (Imm v)) e a = by-immediate (scalar x (i .base)) (signed4 v) (N l i) e (m i)
   element-lies (Contiguous (Reg r)) e a = by-register (scalar x (i .base)) (scalar x r) e (m i)
@@ -83,3 +84,16 @@ signed-field v h =
   where
     below : 8 ≤ v → subℕ 8 (suc (16 - suc v)) ≡ pos ((v + 8) % 16)
     below k = rw (le-ltb 8 (suc (16 - suc v)) (omega arith)) (ap pos (omega arith))
+
+-- "registers t, t+1 and on, 31 followed by 0": register t + j modulo 32
+pub destination-is : (i : Insn) → i .target < 32 → (j : ℕ) → destination i j ≡ (i .target + j) % 32
+destination-is i h zero = omega arith
+destination-is i h (suc j) =
+    let r = (i .target + j) % 32 in
+    rw (destination-is i h j) (if-cases (λ (n : ℕ). n ≡ (i .target + suc j) % 32) (eqb r 31) 0 (suc r)
+    (λ t. let e = eqb-true r 31 t in omega arith) (λ t. let ne = eqb-false r 31 t in omega arith))
+
+-- .. so that no register is a destination twice
+pub destinations-apart : (i : Insn) → i .target < 32 → (j k : ℕ) → j < k → k < 32 → destination i j ≡ destination i k → ⊥
+destinations-apart i h j k less few e =
+    let same : (i .target + j) % 32 ≡ (i .target + k) % 32 = sym (destination-is i h j) ∙ e ∙ destination-is i h k in omega arith

@@ -47,7 +47,7 @@ module _ (vl : ℕ) (x : List ℕ) (allowed : LengthAllowed vl) (i : Insn) (fine
   plan-in-range (Replicate q back) h =
       let n : ℕ = if eqb q 1 then 16 else 8 in
       let b = if-cases (λ (n : ℕ). n ≤ 16) (eqb q 1) 16 8 (λ _. lit≤ tt) (λ _. lit≤ tt) in
-      sound-with (spreadOf vl x i (Replicate q back)) (lit< tt) (lit≤ tt) (omega (arith, div-le-self n (bytesOf (i .element .lane)), b)) (h .3) (lit≤ tt)
+      sound-with (spreadOf vl x i (Replicate q back)) (fine .some) (let k = fine .few in omega arith) (omega (arith, div-le-self n (bytesOf (i .element .lane)), b)) (h .3) (lit≤ tt)
   plan-in-range (ByElement imm6) h =
       let n = lanes-most (i .element .lane) vl (allowed .largest) in
       sound-with (spreadOf vl x i (ByElement imm6)) (lit< tt) (lit≤ tt) n (h .1) n
@@ -55,6 +55,6 @@ module _ (vl : ℕ) (x : List ℕ) (allowed : LengthAllowed vl) (i : Insn) (fine
       let n = lanes-most (i .element .lane) vl (allowed .largest) in
       sound-with (spreadOf vl x i (Contiguous o)) (lane-some (i .element .lane) vl (allowed .least)) n n (h .1) n
   plan-in-range (Block wide o) h =
-      let k = elements-few vl x i (Block wide o) (allowed .largest) in
+      let k = elements-few vl x i (Block wide o) (fine .few) (allowed .largest) in
       let n = blocks-few vl (blockBytes wide) (bytesOf (i .element .lane)) (allowed .largest) in
       sound-with (spreadOf vl x i (Block wide o)) (block-some wide (i .element .lane)) k n (h .1) k

@@ -1,17 +1,15 @@
 -- A load that is ready, and whose active elements can all be read, leaves what the scope of work says.
 use mathlib.Core.Path.{_≡_, refl, sym, ap, subst, _∙_}
 use mathlib.Core.Bool.{Bool, true, false}
-use Prim.Native.Nat.{ℕ, _+_, _-_, _%_, _^_, _<_}
+use Prim.Native.Nat.{ℕ, _+_, _-_, _%_, _^_, _≤_, _<_}
 use native.Mathlib.Nat.{zero-add, zero-mod}
 use native.Mathlib.Omega.{arith}
 use lib.ListN.{length, getD}
 use Rattle.ground.specs.Choices.{if_then_else_}
 use Rattle.ground.proofs.Laws.{off, little-cong, little-below}
-use Rattle.words.specs.Layouts.{Means}
-use Rattle.words.proofs.Decodes.{means-read}
 use Rattle.steps.specs.Insns.{Insn, Is}
-use Rattle.words.specs.Ranges.{InsnInRange, InRange}
-use Rattle.words.proofs.Ranges.{in-range}
+use Rattle.words.specs.Ranges.{InsnInRange}
+use Rattle.words.proofs.Ranges.{means-in-range}
 use Rattle.memory.specs.Addresses.{wrap, plusOf}
 use Rattle.memory.specs.Areas.{Areas}
 use Rattle.memory.specs.Bytes.{readRight, judged, lookOf}
@@ -27,20 +25,20 @@ use Rattle.steps.specs.Benches.{Lent, Bench, areasIn}
 use Rattle.steps.specs.Answers.{Report}
 use Rattle.steps.specs.Terms.{scalar}
 use Rattle.steps.specs.Plans.{planOf}
-use Rattle.steps.specs.Lanes.{governingBytes, asked, laneTakes, elementAt}
+use Rattle.steps.specs.Lanes.{governingBytes, asked, laneTakes, destinationsIn, destinationOf, elementAt}
 use Rattle.steps.specs.Outcomes.{Outcome, answersOf, extended, laneValue, benchAfter, outcomeOf}
 use Rattle.steps.specs.Step.{stepOf}
 use Rattle.steps.specs.Said.{m, laneBytes, N, Active, byteAt, CanRead}
-use Rattle.steps.specs.Demand2.{Contains, ElementValue, Takes, laneIn, Leaves}
+use Rattle.steps.specs.Demand2.{Contains, ElementValue, destination, Takes, laneIn, Leaves}
 use Rattle.steps.specs.Demand1.{Ready, AllReadable}
 use Rattle.steps.specs.declared.Plan.{Plan}
-use Rattle.steps.proofs.Fields.{adds-back, back-adds}
-use Rattle.steps.proofs.Places.{byte-lies}
+use Rattle.steps.proofs.Fields.{destinations-all, adds-back, back-adds}
+use Rattle.steps.proofs.Places.{byte-lies, destination-is}
 use Rattle.steps.proofs.Actives.{takes-there, there-takes, takes-active}
 use Rattle.steps.proofs.Faults.{below-all, can-read, answer-is}
 use Rattle.steps.proofs.Surveys.{survey-clear}
 use Rattle.steps.proofs.Gives.{ready-goes}
-use Rattle.steps.proofs.Results.{extends-lane, small, kept-length, kept-below, kept-above, lane-is, scalars-length, counter, written-back, kept-scalar}
+use Rattle.steps.proofs.Results.{extends-lane, small, kept-length, kept-others, lane-is, scalars-length, counter, written-back, kept-scalar}
 
 -- the byte that a load finds is the one that the area contains
 found : (s : Areas) (accepted : AreasAccepted s) (a v : ℕ) → CanRead s a → Contains s a v → byteFound (lookOf s a) ≡ v
@@ -50,9 +48,6 @@ found s accepted a v c (r, o, h, e, k) = go (readRight (r .rights) (a - r .start
     go : (t : Bool) → lookOf s a ≡ (if t then Byte (getD (r .bytes) (a - r .start) 0) else Bad Denied) → FindsByte (lookOf s) a → byteFound (lookOf s a) ≡ v
     go true p q = ap byteFound p ∙ sym e
     go false p q = let d = q .1 in let z : _≡_ {A = ℕ} 0 1 = cc in absurd (omega arith)
-
-pub in-range-of : (w : ℕ) (i : Insn) → Means w (Is i) → InsnInRange i
-in-range-of w i e = subst InRange (means-read w (Is i) e) (in-range w)
 
 module _ (l : Lent) (w : ℕ) (b : Bench) (i : Insn) (ready : Ready l w b i) (all : AllReadable l b i) where
   abbrev plan : Plan
@@ -79,33 +74,45 @@ module _ (l : Lent) (w : ℕ) (b : Bench) (i : Insn) (ready : Ready l w b i) (al
   value-below e v h = rw (h .value) (little-below (h .byte) 0 (m i) (λ j g. rw zero-add (h .contained j g .4)))
 
   fine : InsnInRange i
-  fine = in-range-of w i (ready .defined .reads)
+  fine = means-in-range w i (ready .defined .reads)
 
   abbrev after : Bench
   after = benchAfter answer l b plan
 
-  in-file : plan .target < 32
-  in-file = fine .target
+  as-many : destinationsIn plan ≡ i .registers
+  as-many = destinations-all (l .settings .vl) (b .scalars) i (i .shape) (fine .shape)
 
-  -- the number in lane k, in the scope's words
-  lane-said : (k : ℕ) → k < N l i → laneIn l (after .vectors) (i .target) (laneBytes i) k ≡ laneValue answer plan (governingBytes l plan) k % 256 ^ laneBytes i
+  among : (j : ℕ) → j < i .registers → j < destinationsIn plan
+  among j h = rw as-many h
+
+  few : destinationsIn plan ≤ 32
+  few = rw as-many (omega (arith, fine .few))
+
+  -- a destination of the scope's is the plan's
+  destined : (j : ℕ) → destination i j ≡ destinationOf plan j
+  unfolding destinationOf
+  destined j = destination-is i (fine .target) j
+
+  -- the number in lane k of destination j, in the scope's words
+  lane-said : (j k : ℕ) → j < i .registers → k < N l i
+      → laneIn l (after .vectors) (destination i j) (laneBytes i) k ≡ laneValue answer plan (governingBytes l plan) j k % 256 ^ laneBytes i
   unfolding benchAfter
-  lane-said k = let a = ready .defined .accepted in lane-is answer l (b .vectors) plan (a .vectors) in-file k
+  lane-said j k d h = rw (destined j) (lane-is answer l (b .vectors) plan (ready .defined .accepted .vectors) (destinationsIn plan) j (among j d) few k h)
 
-  value-said : (k e v : ℕ) → k < N l i → Takes l i k e → answer e ≡ Value v
-      → laneValue answer plan (governingBytes l plan) k ≡ extended (i .element .signed) (m i) (laneBytes i) v
+  value-said : (j k e v : ℕ) → k < N l i → Takes l i j k e → answer e ≡ Value v
+      → laneValue answer plan (governingBytes l plan) j k ≡ extended (i .element .signed) (m i) (laneBytes i) v
   unfolding laneValue
-  value-said k e v h t r =
+  value-said j k e v h t r =
       let a = ready .defined .accepted in
-      let q = takes-there l (b .scalars) (a .allowed) i (i .shape) (fine .shape) (ready .defined .long) k e h t in
+      let q = takes-there l (b .scalars) (a .allowed) i (i .shape) (fine .shape) (ready .defined .long) j k e h t in
       rw (q .0, q .1, r)
 
-  nothing-said : (k : ℕ) → k < N l i → ((e : ℕ) → Takes l i k e → ⊥) → laneValue answer plan (governingBytes l plan) k ≡ 0
+  nothing-said : (j k : ℕ) → k < N l i → ((e : ℕ) → Takes l i j k e → ⊥) → laneValue answer plan (governingBytes l plan) j k ≡ 0
   unfolding laneValue
-  nothing-said k h none =
+  nothing-said j k h none =
       let a = ready .defined .accepted in
       rw (off (laneTakes plan (governingBytes l plan) k)
-      (λ t. none _ (there-takes l (b .scalars) (a .allowed) i (i .shape) (fine .shape) (ready .defined .long) k h t)))
+      (λ t. none _ (there-takes l (b .scalars) (a .allowed) i (i .shape) (fine .shape) (ready .defined .long) j k h t)))
 
   pub ran-leaves : Leaves l b i l after
   unfolding benchAfter
@@ -113,15 +120,14 @@ module _ (l : Lent) (w : ℕ) (b : Bench) (i : Insn) (ready : Ready l w b i) (al
       let a = ready .defined .accepted in
       let base = fine .base in
       record {
-        lane = λ k e v h t c.
-            let q = takes-active l (b .scalars) (a .allowed) i (i .shape) k e h t in
-            rw (lane-said k h, value-said k e v h t (read-as e v q c))
+        lane = λ j k e v d h t c.
+            let q = takes-active l (b .scalars) (a .allowed) i (i .shape) j k e d h t in
+            rw (lane-said j k d h, value-said j k e v h t (read-as e v q c))
             (extends-lane (m i) (laneBytes i) v (fine .narrower) (value-below e v c) (i .element .signed));
-        zero = λ k h none. rw (lane-said k h, nothing-said k h none) (zero-mod _);
-        bytes = small answer l (b .vectors) plan (a .vectors) in-file;
-        below = kept-below answer l (b .vectors) plan (a .vectors) in-file;
-        above = kept-above answer l (b .vectors) plan (a .vectors) in-file;
-        vectors = kept-length answer l (b .vectors) plan (a .vectors) in-file;
+        zero = λ j k d h none. rw (lane-said j k d h, nothing-said j k h none) (zero-mod _);
+        bytes = λ r d k h. rw (d .2, destined (d .0)) (small answer l (b .vectors) plan (a .vectors) (destinationsIn plan) (d .0) (among (d .0) (d .1)) few k h);
+        registers = λ r none. kept-others answer l (b .vectors) plan (a .vectors) (destinationsIn plan) r (λ j h e. none (j, rw (← as-many) h, e ∙ sym (destined j)));
+        vectors = kept-length answer l (b .vectors) plan (a .vectors) (destinationsIn plan);
         base = λ v d. let r = adds-back (l .settings .vl) (b .scalars) i (i .shape) (d .added) (d .adds) in
             written-back plan (b .scalars) (a .scalars) base (r .0)
             ∙ ap (λ (y : ℕ). wrap (scalar (b .scalars) (i .base) + y)) (r .1)

@@ -51,9 +51,9 @@ module _ (l : Lent) (b : Bench) (i : Insn) (a : Accepted l b) (long : Wide i →
   counts-beyond : (k : ℕ) → Counted (Active l i) (elements + k) (many want 0 elements)
   counts-beyond k = counted-on (Active l i) elements _ k (λ f h q. let g = asks f .1 q .0 in omega arith) (counts elements (omega arith))
 
-  pub counts-all : Counted (Active l i) elementLimit (many want 0 elements)
-  counts-all =
-      let n : elements + (elementLimit - elements) ≡ elementLimit = let k = elements-few (l .settings .vl) (b .scalars) i (i .shape)
+  pub counts-all : i .registers ≤ 4 → Counted (Active l i) elementLimit (many want 0 elements)
+  counts-all few =
+      let n : elements + (elementLimit - elements) ≡ elementLimit = let k = elements-few (l .settings .vl) (b .scalars) i (i .shape) few
       (a .allowed .largest) in omega arith in
       rw n at (counts-beyond (elementLimit - elements))
 

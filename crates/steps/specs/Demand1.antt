@@ -35,7 +35,7 @@ WideAs (Block wide offset) = wide ≡ true
 abbrev pub Wide : Insn → Type 0
 Wide i = WideAs (i .shape)
 
--- the switch that the load needs is on: "LD1R with SIMD off; any other with SVE off" earns 4
+-- the switch that the load needs is on: "LD1R with SIMD off; any other with SVE off" earns 4; LD2R to LD4R stand with LD1R
 abbrev pub OnAs : Shape → Lent → Type 0
 OnAs (Replicate q back) l = l .settings .simd ≡ true
 OnAs (ByElement imm6) l = l .settings .sve ≡ true

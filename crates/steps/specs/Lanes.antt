@@ -1,5 +1,5 @@
 -- Which elements are asked for, which lane takes which, and which lanes the stack rule consults. No memory is in sight.
-use Prim.Native.Nat.{ℕ, _*_, _/_, _%_, _^_}
+use Prim.Native.Nat.{ℕ, _+_, _*_, _/_, _%_, _^_}
 use mathlib.Core.Bool.{Bool, true, _&&_}
 use mathlib.Core.List.{List, []}
 use lib.Dec.{ltb, eqb}
@@ -31,7 +31,8 @@ module _ (p : Plan) (pred : List ℕ) where
   unfoldable pub isActive : ℕ → Bool
   isActive l = bitOf pred (l * bytesOf (p .lane))
 
-  -- element e is asked for: "a single read is one active element: always for LD1R, and for LD1R by element exactly when some lane is active"
+  -- element e is asked for: "a single read is one active element: always for LD1R, and for LD1R by element exactly when some lane is active";
+  -- and each of LD2R to LD4R's
   abbrev pub wantedBy : Rule → ℕ → Bool
   wantedBy Always e = true
   wantedBy LaneBit e = anyBelow isActive (p .filled)
@@ -61,6 +62,29 @@ module _ (p : Plan) (pred : List ℕ) where
 
   unfoldable pub checksStack : Bool
   checksStack = checksBy (p .rule)
+
+-- the element of lane l of destination j. LD1R to LD4R: "successive elements go to registers t, t+1 and on"; the others have one destination,
+-- whose lanes take the one element, or the elements in turn
+abbrev pub elementBy : Rule → ℕ → ℕ → ℕ → ℕ
+elementBy Always elements j l = j
+elementBy LaneBit elements j l = 0
+elementBy ElementBit elements j l = l % elements
+
+unfoldable pub laneElement : Plan → ℕ → ℕ → ℕ
+laneElement p j l = elementBy (p .rule) (p .elements) j l
+
+-- how many destinations: LD1R to LD4R have one for each element, and every other load has one
+abbrev pub destinationsBy : Rule → ℕ → ℕ
+destinationsBy Always elements = elements
+destinationsBy LaneBit elements = 1
+destinationsBy ElementBit elements = 1
+
+unfoldable pub destinationsIn : Plan → ℕ
+destinationsIn p = destinationsBy (p .rule) (p .elements)
+
+-- destination j: "registers t, t+1 and on, 31 followed by 0"
+unfoldable pub destinationOf : Plan → ℕ → ℕ
+destinationOf p j = (p .target + j) % 32
 
 -- where element e lies
 unfoldable pub elementAt : Plan → ℕ → ℕ

@@ -1,5 +1,5 @@
 -- What a load leaves, from its plan and the answers to the elements it asks for. Memory is in sight in `answersIn` alone.
-use Prim.Native.Nat.{ℕ, _+_, _-_, _*_, _/_, _%_, _^_}
+use Prim.Native.Nat.{ℕ, zero, suc, _+_, _-_, _*_, _/_, _%_, _^_}
 use mathlib.Core.Bool.{Bool, _&&_}
 use mathlib.Core.List.{List, [], _∷_}
 use lib.Dec.{leb, eqb}
@@ -16,7 +16,7 @@ use Rattle.memory.specs.declared.Reading.the-variants.{Value, Bad}
 use Rattle.steps.specs.Benches.{Lent, Bench, areasIn}
 use Rattle.steps.specs.Answers.{faultNumber, Report, reportWith}
 use Rattle.steps.specs.Terms.{scalar}
-use Rattle.steps.specs.Lanes.{governingBytes, asked, laneTakes, elementAt}
+use Rattle.steps.specs.Lanes.{governingBytes, asked, laneTakes, laneElement, destinationsIn, destinationOf, elementAt}
 use Rattle.steps.specs.declared.Plan.{Plan}
 
 -- the whole bench after a step, what cannot change too
@@ -53,19 +53,24 @@ unfoldable pub extended : Bool → ℕ → ℕ → ℕ → ℕ
 extended signed m n v = if signed && leb (2 ^ (8 * m - 1)) v then v + (2 ^ (8 * n) - 2 ^ (8 * m)) else v
 
 module _ (answer : ℕ → Reading) (p : Plan) (pred : List ℕ) where
-  -- "Active lanes get the extended value, others zero."
-  unfoldable pub laneValue : ℕ → ℕ
-  laneValue l =
-      if laneTakes p pred l then extended (p .signed) (bytesOf (p .size)) (bytesOf (p .lane)) (valueOf (answer (l % p .elements)))
+  -- lane l of destination j: "Active lanes get the extended value, others zero."
+  unfoldable pub laneValue : ℕ → ℕ → ℕ
+  laneValue j l =
+      if laneTakes p pred l then extended (p .signed) (bytesOf (p .size)) (bytesOf (p .lane)) (valueOf (answer (laneElement p j l)))
       else 0
 
-  -- byte i of the destination, lowest byte of each lane first
-  unfoldable pub registerByte : ℕ → ℕ
-  registerByte i = laneValue (i / bytesOf (p .lane)) / 256 ^ (i % bytesOf (p .lane)) % 256
+  -- byte i of destination j, lowest byte of each lane first
+  unfoldable pub registerByte : ℕ → ℕ → ℕ
+  registerByte j i = laneValue j (i / bytesOf (p .lane)) / 256 ^ (i % bytesOf (p .lane)) % 256
 
-  -- a destination of n bytes
-  unfoldable pub registerOf : ℕ → List ℕ
-  registerOf n = listed registerByte 0 n
+  -- destination j, of n bytes
+  unfoldable pub registerOf : ℕ → ℕ → List ℕ
+  registerOf j n = listed (registerByte j) 0 n
+
+  -- a vector file of registers of n bytes, in which the first so many destinations are filled, one after the other
+  unfoldable pub vectorsAfter : ℕ → List ℕ → ℕ → List ℕ
+  vectorsAfter n z zero = z
+  vectorsAfter n z (suc j) = replaced (vectorsAfter n z j) (destinationOf p j * n) n (registerOf j n)
 
 -- the base written back
 unfoldable pub baseAfter : Plan → List ℕ → List ℕ
@@ -78,9 +83,8 @@ scalarsAfter p x = set (baseAfter p x) 32 (plusOf (scalar x 32) 4)
 -- what a load that ran leaves
 unfoldable pub benchAfter : (ℕ → Reading) → Lent → Bench → Plan → Bench
 benchAfter answer l b p =
-    let n = l .settings .vl / 8 in
     record {
-      vectors = replaced (b .vectors) (p .target * n) n (registerOf answer p (governingBytes l p) n);
+      vectors = vectorsAfter answer p (governingBytes l p) (l .settings .vl / 8) (b .vectors) (destinationsIn p);
       scalars = scalarsAfter p (b .scalars);
       ram = b .ram;
     }

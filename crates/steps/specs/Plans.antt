@@ -27,10 +27,10 @@ abbrev pub writesBack : Back → Bool
 writesBack Keep = false
 writesBack (Post r) = true
 
--- "Post-index adds the read's size when Rm = 31, else Xm as it was before the step"
-abbrev pub amountOf : List ℕ → Size → Back → ℕ
-amountOf x size Keep = 0
-amountOf x size (Post r) = if eqb r 31 then bytesOf size else scalar x r
+-- "Post-index adds the read's size when Rm = 31, else Xm as it was before the step", and of LD2R to LD4R "the sum of the reads": so many bytes
+abbrev pub amountOf : List ℕ → ℕ → Back → ℕ
+amountOf x bytes Keep = 0
+amountOf x bytes (Post r) = if eqb r 31 then bytes else scalar x r
 
 -- what a load's shape decides of its plan: where element 0 lies, its elements, the lanes that take one, what decides, the lanes that the
 -- stack rule consults, and what is written back
@@ -48,20 +48,20 @@ abbrev pub spreadWith : ℕ → ℕ → ℕ → Rule → ℕ → Spread
 spreadWith start elements filled rule consulted =
     record { start = start; elements = elements; filled = filled; rule = rule; consulted = consulted; back = false; amount = 0 }
 
--- .. of LD1R: one read, over 64 bits (Q=0) or 128; the rest of the register becomes zero
+-- .. of LD1R to LD4R: a read for each register, over 64 bits (Q=0) or 128; the rest of the register becomes zero
 abbrev pub replicated : List ℕ → Insn → ℕ → Back → Spread
 replicated x i q back =
     record {
       start = scalar x (i .base);
-      elements = 1;
+      elements = i .registers;
       filled = (if eqb q 1 then 16 else 8) / bytesOf (i .element .lane);
       rule = Always;
       consulted = 0;
       back = writesBack back;
-      amount = amountOf x (i .element .memory) back;
+      amount = amountOf x (i .registers * bytesOf (i .element .memory)) back;
     }
 
--- Element e lies at start + e × size; lane l of the first `filled` takes element l mod `elements`.
+-- Element e lies at start + e × size; each of the first `filled` lanes of a destination takes one (`laneElement` of Lanes).
 unfoldable pub spreadOf : ℕ → List ℕ → Insn → Shape → Spread
 spreadOf vl x i (Replicate q back) = replicated x i q back
 spreadOf vl x i (ByElement imm6) =

@@ -60,9 +60,10 @@ LaneActive l i e = BitSet l (i .governing) (e * laneBytes i)
 abbrev pub SomeActive : Lent → Insn → ℕ → Type 0
 SomeActive l i n = (e : ℕ) × (e < n) × LaneActive l i e
 
--- element e is active: "a single read is one active element with number 0: always for LD1R, and for LD1R by element exactly when some lane is active"
+-- element e is active: "a single read is one active element with number 0: always for LD1R, and for LD1R by element exactly when some lane is
+-- active". LD2R to LD4R have as many as registers, from number 0 on
 abbrev pub ActiveAs : Shape → Lent → Insn → ℕ → Type 0
-ActiveAs (Replicate q back) l i e = e ≡ 0
+ActiveAs (Replicate q back) l i e = e < i .registers
 ActiveAs (ByElement imm6) l i e = (e ≡ 0) × SomeActive l i (N l i)
 ActiveAs (Contiguous offset) l i e = (e < N l i) × LaneActive l i e
 ActiveAs (Block wide offset) l i e = (e < K wide i) × LaneActive l i e
@@ -70,7 +71,7 @@ ActiveAs (Block wide offset) l i e = (e < K wide i) × LaneActive l i e
 abbrev pub Active : Lent → Insn → ℕ → Type 0
 Active l i e = ActiveAs (i .shape) l i e
 
--- "LD1R always checks. The others check only when one of the lanes they consult is active": all N; LD1RQ and LD1RO "only the block's own"
+-- "LD1R always checks", and so do LD2R to LD4R. "The others check only when one of the lanes they consult is active": all N; LD1RQ and LD1RO "only the block's own"
 abbrev pub ChecksAs : Shape → Lent → Insn → Type 0
 ChecksAs (Replicate q back) l i = Unit {0}
 ChecksAs (ByElement imm6) l i = SomeActive l i (N l i)
@@ -82,7 +83,7 @@ Checks l i = ChecksAs (i .shape) l i
 
 -- where element e lies, before it is taken modulo 2^64
 abbrev pub liesAs : Shape → Lent → List ℕ → Insn → ℕ → ℤ
-liesAs (Replicate q back) l x i e = pos (scalar x (i .base))
+liesAs (Replicate q back) l x i e = pos (scalar x (i .base)) +ℤ pos (e * m i)
 liesAs (ByElement imm6) l x i e = pos (scalar x (i .base)) +ℤ pos imm6 *ℤ pos (m i)
 liesAs (Contiguous (Imm v)) l x i e = pos (scalar x (i .base)) +ℤ (signed4 v *ℤ pos (N l i) +ℤ pos e) *ℤ pos (m i)
 liesAs (Contiguous (Reg r)) l x i e = pos (scalar x (i .base)) +ℤ (pos (scalar x r) +ℤ pos e) *ℤ pos (m i)

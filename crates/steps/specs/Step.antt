@@ -27,7 +27,7 @@ isWide (ByElement imm6) = false
 isWide (Contiguous offset) = false
 isWide (Block wide offset) = wide
 
--- the switch that the load needs is on: "LD1R with SIMD off; any other with SVE off" earns 4
+-- the switch that the load needs is on: "LD1R with SIMD off; any other with SVE off" earns 4; LD2R to LD4R stand with LD1R
 abbrev pub switchedOn : Settings → Shape → Bool
 switchedOn s (Replicate q back) = s .simd
 switchedOn s (ByElement imm6) = s .sve

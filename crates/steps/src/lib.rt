@@ -97,7 +97,7 @@ impl Answer {
 }
 
 // What decides whether a lane takes its element, and whether an element is read.
-// Always, as for LD1R: every lane takes the one element, and it is read.
+// Always, as for LD1R to LD4R: every lane of destination j takes element j, and each element is read.
 // LaneBit, as for LD1R by element: a lane takes the one element where its own bit is 1, and the element is read where some lane is active.
 // ElementBit, as for the others: lane l takes element l mod `elements` where the bit of the lane with that number is 1, and only then is it read.
 pub enum Rule {
@@ -106,8 +106,9 @@ pub enum Rule {
     ElementBit,
 }
 
-// What a load is about to do, with no memory in sight. Element e is read at start + e × size. Each of the first `filled` lanes takes its
-// element where the rule says so, and every other lane becomes zero. The stack rule checks SP where one of the first `consulted` lanes is
+// What a load is about to do, with no memory in sight. Element e is read at start + e × size. The destinations are registers from `target` on, 31
+// followed by 0: one for each element where the rule is `Always`, and else one. In each, each of the first `filled` lanes takes its element where
+// the rule says so, and every other lane becomes zero. The stack rule checks SP where one of the first `consulted` lanes is
 // active; where the rule is `Always`, it checks in any case. The base is written back where `back` says so, and `amount` is added to it.
 pub struct Plan {
     pub start: Address,

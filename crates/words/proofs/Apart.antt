@@ -16,7 +16,7 @@ use Rattle.ground.specs.Pieces.{bits}
 use Rattle.ground.proofs.Laws.{never, off, or-cases, and-left, and-right, and-both, all-of, all, any-at}
 use Rattle.ground.proofs.Pieces.{halves}
 use Rattle.words.specs.Families.{Fixed, bitsAre, tests, fits, FamilyRow, _⇨_, families, readBy, readOf}
-use Rattle.words.specs.Insns.{Outside, Undefined}
+use Rattle.words.specs.Insns.{Decoded, Outside, Undefined}
 
 -- ---- Two rows that fix a bit to different values
 
@@ -157,6 +157,10 @@ one-row w j k p q = one-place w families families-apart j k p q
 pub row-reads : (w k : ℕ) → k < length families → fits w (rowAt families k .bits) ≡ true → readOf w ≡ rowAt families k .means w
 unfolding readOf
 row-reads w k l t = place-reads w families families-apart k (record { there = l; fitting = t })
+
+-- .. so that a result that is what the row says is what the word is
+pub row-is : (k w : ℕ) {d : Decoded} → k < length families → fits w (rowAt families k .bits) ≡ true → d ≡ rowAt families k .means w → d ≡ readOf w
+row-is k w l t e = e ∙ sym (row-reads w k l t)
 
 -- a word with bits that every row fixes otherwise is outside
 pub clashing-outside : (fs : List Fixed) → all (clash (fs ⇨ (λ w. Outside))) families ≡ true → (w : ℕ) → fits w fs ≡ true → readOf w ≡ Outside

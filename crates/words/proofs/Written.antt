@@ -9,7 +9,7 @@ use Rattle.ground.specs.Pieces.{widths}
 use Rattle.ground.proofs.Pieces.{Placed, placed-fit, relaid, halves}
 use Rattle.words.specs.Families.{families, choices, readOf}
 use Rattle.words.specs.Layouts.{Family, layout, LaidOut}
-use Rattle.words.specs.Layouts.Family.{ld1r-keep, ld1r-post, ld1r-element, ld1-immediate, ld1-scalar, block-immediate, block-scalar}
+use Rattle.words.specs.Layouts.Family.{replicate-keep, replicate-post, ld1r-element, ld1-immediate, ld1-scalar, block-immediate, block-scalar}
 use Rattle.words.specs.Insns.{Decoded, Outside}
 
 -- what a row's tests say of the word
@@ -28,14 +28,13 @@ module _ (w : ℕ) (h : w < 2 ^ 32) where
       first-each Found (choices families w) Outside
       ((λ t.
       let a = halves w 23 6 1 0b0011010 (search met) in
-      let b = halves w 13 6 3 0b000000110 (search met) in
-      let c = halves w 16 1 5 0b000000 (b .0) in
-      row (ld1r-keep _ _ _ _ _ _) h
-      (search met & refl & a .0 & a .1 & refl & c .0 & c .1 & b .1 & refl & refl & refl & refl & tt))
+      let b = halves w 14 5 2 0b0000011 (search met) in
+      row (replicate-keep _ _ _ _ _ _ _ _) h
+      (search met & refl & a .0 & a .1 & refl & refl & b .0 & b .1 & refl & refl & refl & refl & refl & tt))
       & (λ t.
       let a = halves w 23 6 1 0b0011011 (search met) in
-      row (ld1r-post _ _ _ _ _ _ _) h
-      (search met & refl & a .0 & a .1 & refl & search met & refl & search met & refl & refl & refl & refl & tt))
+      row (replicate-post _ _ _ _ _ _ _ _ _) h
+      (search met & refl & a .0 & a .1 & refl & refl & refl & search met & refl & refl & refl & refl & refl & tt))
       & (λ t. row (ld1r-element _ _ _ _ _ _) h (search met & refl & search met & refl & search met & refl & refl & refl & refl & tt))
       & (λ t. row (ld1-immediate _ _ _ _ _) h (search met & refl & search met & refl & search met & refl & refl & refl & tt))
       & (λ t. row (ld1-scalar _ _ _ _ _) h (search met & refl & refl & search met & refl & refl & refl & tt))

@@ -11,15 +11,19 @@ use Rattle.words.specs.Dtypes.{plainOf, dtypeOf}
 use Rattle.words.specs.Insns.{insnWith, Insn, Shape, Replicate, ByElement, Contiguous, Block, None, By, Dtype, Offset, Imm, Reg, Back, Keep, Post}
 use Rattle.words.specs.Insns.{Decoded, Outside, Undefined, Is}
 
--- LD1R: L=0 or S=1 is undefined
+-- how many registers LD1R to LD4R load, as page 004 has it: "selem = UInt(opcode<0>:R) + 1"
+abbrev pub registersOf : ℕ → ℕ
+registersOf w = bits w 13 13 * 2 + bits w 21 21 + 1
+
+-- LD1R to LD4R: L=0 or S=1 is undefined
 abbrev pub replicateOf : Back → ℕ → Decoded
 replicateOf back w =
     if eqb (bits w 22 22) 0 || eqb (bits w 12 12) 1 then Undefined
-    else Is (insnWith (plainOf (sizeOf (bits w 11 10))) None (bits w 9 5) (bits w 4 0) (Replicate (bits w 30 30) back))
+    else Is (insnWith (plainOf (sizeOf (bits w 11 10))) None (bits w 9 5) (bits w 4 0) (registersOf w) (Replicate (bits w 30 30) back))
 
--- what every SVE word has: a governing predicate, a base and a target
+-- what every SVE word has: a governing predicate, a base and one target
 abbrev pub sveOf : ℕ → Dtype → Shape → Insn
-sveOf w element shape = insnWith element (By (bits w 12 10)) (bits w 9 5) (bits w 4 0) shape
+sveOf w element shape = insnWith element (By (bits w 12 10)) (bits w 9 5) (bits w 4 0) 1 shape
 
 -- LD1R by element: dtype is dh then dl
 abbrev pub byElementOf : ℕ → Decoded
@@ -69,11 +73,11 @@ infix 20 _⇨_
 abbrev pub _⇨_ : List Fixed → (ℕ → Decoded) → FamilyRow
 fs ⇨ means = record { bits = fs; means = means }
 
--- the nine rows, in the order of the scope of work; no word fits two (`one-row` of Apart), so that their order says nothing
+-- the nine rows, in the order of the scope of work, LD2R to LD4R being rows of LD1R; no word fits two (`one-row` of Apart), so that their order says nothing
 unfoldable pub families : List FamilyRow
 families =
-    ((bitsAre 31 31 0b0 ∷ bitsAre 29 23 0b0011010 ∷ bitsAre 21 13 0b000000110 ∷ []) ⇨ replicateOf Keep)
-    ∷ ((bitsAre 31 31 0b0 ∷ bitsAre 29 23 0b0011011 ∷ bitsAre 21 21 0b0 ∷ bitsAre 15 13 0b110 ∷ []) ⇨ (λ w. replicateOf (Post (bits w 20 16)) w))
+    ((bitsAre 31 31 0b0 ∷ bitsAre 29 23 0b0011010 ∷ bitsAre 20 14 0b0000011 ∷ []) ⇨ replicateOf Keep)
+    ∷ ((bitsAre 31 31 0b0 ∷ bitsAre 29 23 0b0011011 ∷ bitsAre 15 14 0b11 ∷ []) ⇨ (λ w. replicateOf (Post (bits w 20 16)) w))
     ∷ ((bitsAre 31 25 0b1000010 ∷ bitsAre 22 22 0b1 ∷ bitsAre 15 15 0b1 ∷ []) ⇨ byElementOf)
     ∷ ((bitsAre 31 25 0b1010010 ∷ bitsAre 20 20 0b0 ∷ bitsAre 15 13 0b101 ∷ []) ⇨ (λ w. contiguousOf (immediate w) w))
     ∷ ((bitsAre 31 25 0b1010010 ∷ bitsAre 15 13 0b010 ∷ []) ⇨ (λ w. scalarOf w (contiguousOf (register w) w)))

@@ -13,7 +13,7 @@ pub use Rattle.words.specs.declared.Insn.{Insn}
 pub use Rattle.words.specs.declared.Decoded.{Decoded}
 pub use Rattle.words.specs.declared.Decoded.the-variants.{Outside, Undefined, Is}
 
--- an element's sizes and sign, the predicate that governs, base and target, and the shape
-abbrev pub insnWith : Dtype → Governing → ℕ → ℕ → Shape → Insn
-insnWith element governing base target shape =
-    record { element = element; base = base; target = target; governing = governing; shape = shape }
+-- an element's sizes and sign, the predicate that governs, base and target, how many registers it loads from the target on, and the shape
+abbrev pub insnWith : Dtype → Governing → ℕ → ℕ → ℕ → Shape → Insn
+insnWith element governing base target registers shape =
+    record { element = element; base = base; target = target; registers = registers; governing = governing; shape = shape }

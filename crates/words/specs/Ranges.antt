@@ -27,17 +27,19 @@ InTable d = (n : ℕ) × (n < 16) × (d ≡ dtypeOf n)
 abbrev pub AsWideAsLane : Dtype → Type 0
 AsWideAsLane d = d ≡ plainOf (d .memory)
 
--- nothing governs LD1R, and every other load is governed
+-- nothing governs LD1R to LD4R, and every other load is governed and has one target
 abbrev pub ShapeInRange : Insn → Shape → Type 0
 ShapeInRange i (Replicate q back) = (q < 2) × BackInRange back × AsWideAsLane (i .element) × (i .governing ≡ None)
-ShapeInRange i (ByElement imm6) = (imm6 < 64) × Governed (i .governing) × InTable (i .element)
-ShapeInRange i (Contiguous offset) = OffsetInRange offset × Governed (i .governing) × InTable (i .element)
-ShapeInRange i (Block wide offset) = OffsetInRange offset × Governed (i .governing) × AsWideAsLane (i .element)
+ShapeInRange i (ByElement imm6) = (imm6 < 64) × Governed (i .governing) × InTable (i .element) × (i .registers ≡ 1)
+ShapeInRange i (Contiguous offset) = OffsetInRange offset × Governed (i .governing) × InTable (i .element) × (i .registers ≡ 1)
+ShapeInRange i (Block wide offset) = OffsetInRange offset × Governed (i .governing) × AsWideAsLane (i .element) × (i .registers ≡ 1)
 
 pub record InsnInRange (i : Insn) : Type 0 where
   pub narrower : bytesOf (i .element .memory) ≤ bytesOf (i .element .lane)
   pub base : i .base < 32
   pub target : i .target < 32
+  pub some : 0 < i .registers
+  pub few : i .registers ≤ 4
   pub shape : ShapeInRange i (i .shape)
 
 abbrev pub InRange : Decoded → Type 0

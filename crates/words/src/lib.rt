@@ -5,7 +5,8 @@ use ground::Size;
 ghost use mathlib.Core.Path.{_≡_};
 ghost use mathlib.Core.Bool.{true, false};
 ghost use Rattle.words.specs.Dtypes.{plainOf, DtypePromise};
-ghost use Rattle.words.specs.Families.{replicateOf, sveOf, byElementOf, contiguousOf, blockOf, scalarOf, ReadPromise};
+ghost use Rattle.words.specs.Families.{replicateOf, sveOf, byElementOf, contiguousOf, blockOf, scalarOf, readOf, ReadPromise};
+ghost use Rattle.ground.specs.Pieces.{bits};
 ghost use Rattle.words.specs.Insns.{Is};
 
 // What an SVE load adds to its base: a field of four bits, signed, that counts blocks; or a scalar register.
@@ -14,13 +15,13 @@ pub enum Offset {
     Reg(u32),
 }
 
-// Whether LD1R writes its base back: no offset, or post-index by Rm.
+// Whether LD1R to LD4R write their base back: no offset, or post-index by Rm.
 pub enum Back {
     Keep,
     Post(u32),
 }
 
-// The predicate register that governs an instruction. LD1R has none.
+// The predicate register that governs an instruction. LD1R to LD4R have none.
 pub enum Governing {
     None,
     By(u32),
@@ -33,7 +34,7 @@ pub struct Dtype {
     pub signed: bool,
 }
 
-// What an instruction of one shape has beside what all have. Contiguous is LD1; Block is LD1RQ, and LD1RO where it is wide.
+// What an instruction of one shape has beside what all have. Replicate is LD1R to LD4R; Contiguous is LD1; Block is LD1RQ, and LD1RO where it is wide.
 pub enum Shape {
     Replicate { q: u32, back: Back },
     ByElement { imm6: u32 },
@@ -41,11 +42,12 @@ pub enum Shape {
     Block { wide: bool, offset: Offset },
 }
 
-// An instruction: what every load has, and its shape.
+// An instruction: what every load has, and its shape. It loads so many registers, from the target on; 31 is followed by 0.
 pub struct Insn {
     pub element: Dtype,
     pub base: u32,
     pub target: u32,
+    pub registers: u32,
     pub governing: Governing,
     pub shape: Shape,
 }
@@ -98,7 +100,7 @@ fn plain(size: Size) -> Dtype
     }
 }
 
-// LD1R: L=0 or S=1 is undefined. No predicate governs it.
+// LD1R to LD4R: L=0 or S=1 is undefined. No predicate governs them. The last bit of the opcode, then R, count the registers.
 fn replicate(word: u32, back: Back) -> Decoded
     ensures { λ r. ⌜ r ≡ replicateOf back word ⌝ }
 {
@@ -109,6 +111,7 @@ fn replicate(word: u32, back: Back) -> Decoded
         element: plain(Size::of(word / 0x0000_0400 % 4)),
         base: word / 0x0000_0020 % 32,
         target: word / 1 % 32,
+        registers: word / 0x0000_2000 % 2 * 2 + word / 0x0020_0000 % 2 + 1,
         governing: Governing::None,
         shape: Shape::Replicate {
             q: word / 0x4000_0000 % 2,
@@ -125,6 +128,7 @@ fn sve(word: u32, element: Dtype, shape: Shape) -> Decoded
         element,
         base: word / 0x0000_0020 % 32,
         target: word / 1 % 32,
+        registers: 1,
         governing: Governing::By(word / 0x0000_0400 % 8),
         shape,
     })
@@ -170,22 +174,32 @@ fn scalar(word: u32, load: Decoded) -> Decoded
     load
 }
 
+// The rows of LD1R to LD4R: bit 31 is 0 in these, and 1 in every other.
+fn replicate_rows(word: u32) -> Decoded
+    requires { ⌜ bits word 31 31 ≡ 0 ⌝ }
+    ensures { λ r. ⌜ r ≡ readOf word ⌝ }
+{
+    let bits_29_23 = word / 0x0080_0000 % 128;
+    if (bits_29_23 == 0b0011010) & (word / 0x0000_4000 % 128 == 0b0000011) {
+        return replicate(word, Back::Keep);
+    }
+    if (bits_29_23 == 0b0011011) & (word / 0x0000_4000 % 4 == 0b11) {
+        return replicate(word, Back::Post(word / 0x0001_0000 % 32));
+    }
+    Decoded::Outside
+}
+
 // The family table, row by row.
 pub fn read(word: u32) -> Decoded
     ensures { λ r. ⌜ ReadPromise word r ⌝ }
 {
-    let low = word / 0x8000_0000 % 2 == 0b0;
+    if word / 0x8000_0000 % 2 == 0 {
+        return replicate_rows(word);
+    }
     let top = word / 0x0200_0000 % 128;
     let op = word / 0x0000_2000 % 8;
     let imm = Offset::Imm(word / 0x0001_0000 % 16);
     let reg = Offset::Reg(word / 0x0001_0000 % 32);
-    let bits_29_23 = word / 0x0080_0000 % 128;
-    if low & (bits_29_23 == 0b0011010) & (word / 0x0000_2000 % 512 == 0b000000110) {
-        return replicate(word, Back::Keep);
-    }
-    if low & (bits_29_23 == 0b0011011) & (word / 0x0020_0000 % 2 == 0b0) & (op == 0b110) {
-        return replicate(word, Back::Post(word / 0x0001_0000 % 32));
-    }
     if (top == 0b1000010) & (word / 0x0040_0000 % 2 == 0b1) & (word / 0x0000_8000 % 2 == 0b1) {
         return by_element(word);
     }

@@ -64,11 +64,11 @@ carry-out-spec =
     (λ c.
     let t = c .before .before .before .before .before .before .before .before in
     ran _ _ _ _ (governed (t .before .before .before .before .before .before))
-    (sym (t .before .before .before .before .stack-fails .ensures) ∙ t .before .before .before .if1 .left) (t .target .result) _ (t .target .ensures)
+    (sym (t .before .before .before .before .stack-fails .ensures) ∙ t .before .before .before .if1 .left) (t .load .result) _ (t .load .ensures)
     (sym (c .before .before .before .before .before .number .ensures) ∙ c .before .before .before .before .if2 .taken) _ (c .before .before .scalars .ensures))
     (λ c. c .before .before .before .z .given) (λ c. refl)
     (λ c.
     let t = c .before .before .before .before in
     faulted _ _ _ _ (governed (t .before .before .before .before .before .before))
-    (sym (t .before .before .before .before .stack-fails .ensures) ∙ t .before .before .before .if1 .left) (t .target .result) _ (t .target .ensures)
+    (sym (t .before .before .before .before .stack-fails .ensures) ∙ t .before .before .before .if1 .left) (t .load .result) _ (t .load .ensures)
     (λ z. c .if2 .left (c .before .number .ensures ∙ z))))

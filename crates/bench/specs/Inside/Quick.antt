@@ -8,14 +8,14 @@ use mathlib.Core.List.{List, [], _∷_}
 use lib.Dec.{ltb}
 use lib.ListN.{length, getD}
 use Rattle.ground.specs.Choices.{if_then_else_}
-use Rattle.ground.specs.Lists.{bytesAt}
+use Rattle.ground.specs.Lists.{replaced, bytesAt}
 use Rattle.ground.specs.Sizes.{bytesOf}
 use Rattle.ground.proofs.Fills.{Filled}
 use Rattle.memory.specs.Addresses.{wrap}
 use Rattle.memory.specs.declared.Reading.{Reading}
 use Rattle.memory.specs.declared.Reading.the-variants.{Value}
-use Rattle.steps.specs.Lanes.{bitOf, wanted}
-use Rattle.steps.specs.Outcomes.{extended, registerOf}
+use Rattle.steps.specs.Lanes.{bitOf, wanted, destinationOf}
+use Rattle.steps.specs.Outcomes.{extended, registerOf, vectorsAfter}
 use Rattle.steps.specs.Inside.{PlanInRange}
 use Rattle.steps.specs.declared.Plan.{Plan}
 use Rattle.steps.specs.declared.Rule.{Rule}
@@ -55,8 +55,8 @@ pub record Copied (dst dst′ : List ℕ) (block end : ℕ) : Type 0 where
   pub long : length dst′ ≡ length dst
   pub copied : (i : ℕ) → i < end → getD dst′ i 0 ≡ getD dst (i % block) 0
 
--- by the rule: whether it is LD1R's; the register's own chunks, which are filled from the stretch, while the rest is copies of them and
--- zeros; how far apart their elements lie; the bits that decide; and the count of reads, from the number of lanes that are on
+-- by the rule: whether it is that of LD1R to LD4R; the register's own chunks, which are filled from the stretch, while the rest is copies of them and
+-- zeros; how far apart their elements lie; and the count of reads, from the number of lanes that are on
 abbrev pub isAlways : Rule → Bool
 isAlways Always = true
 isAlways LaneBit = false
@@ -71,11 +71,6 @@ abbrev pub strideOf : Rule → ℕ → ℕ
 strideOf Always size = 0
 strideOf LaneBit size = 0
 strideOf ElementBit size = size
-
-abbrev pub decidingBits : Rule → List ℕ → List ℕ
-decidingBits Always pred = 255 ∷ []
-decidingBits LaneBit pred = pred
-decidingBits ElementBit pred = pred
 
 abbrev pub countOf : Rule → ℕ → ℕ
 countOf Always on = 1
@@ -94,17 +89,48 @@ pub record FillFits (p : Plan) (pred : List ℕ) (n : ℕ) : Type 0 where
 abbrev pub ownIn : Plan → ℕ
 ownIn p = ownOf (p .rule) (p .elements) (p .filled) (bytesOf (p .lane))
 
--- what a fill from a stretch needs, and leaves
+-- what a fill of the one destination from a stretch needs, where the rule asks bits, and leaves
 pub record FillIn (p : Plan) (pred s : List ℕ) (n : ℕ) : Type 0 where
   pub fit : FillFits p pred n
+  pub asks : isAlways (p .rule) ≡ false
   pub long : length s ≡ p .elements * bytesOf (p .size)
 
 pub record FillOut (p : Plan) (pred s : List ℕ) (n : ℕ) (dst : List ℕ) (r : ℕ) : Type 0 where
   pub count : r ≡ many (wanted p pred) 0 (p .elements)
-  pub bytes : dst ≡ registerOf (answersFrom s p) p pred n
+  pub bytes : dst ≡ registerOf (answersFrom s p) p pred 0 n
 
 -- .. when the lanes that are filled from the stretch are done, before their copies
 abbrev pub OwnOut : Plan → List ℕ → List ℕ → ℕ → List ℕ → ℕ → Type 0
 OwnOut p pred s n dst on =
-    LanesOut s 0 (decidingBits (p .rule) pred) (strideOf (p .rule) (bytesOf (p .size))) (p .signed) (bytesOf (p .size)) (bytesOf (p .lane)) n dst on
+    LanesOut s 0 pred (strideOf (p .rule) (bytesOf (p .size))) (p .signed) (bytesOf (p .size)) (bytesOf (p .lane)) n dst on
     (ownIn p * (8 / bytesOf (p .lane)))
+
+-- a number of eight bytes that is one of w bytes over and over
+abbrev pub Spread : ℕ → ℕ → ℕ → Type 0
+Spread v w r = (i : ℕ) → i < 8 → r / 256 ^ i % 256 ≡ v / 256 ^ (i % w) % 256
+
+-- what the fill of LD1R to LD4R's destinations from a stretch needs, in registers of n bytes
+pub record ReplicatesIn (p : Plan) (s : List ℕ) (n : ℕ) : Type 0 where
+  pub sound : PlanInRange p
+  pub shaped : Shaped p n
+  pub most : n ≤ 256
+  pub always : p .rule ≡ Always
+  pub long : length s ≡ p .elements * bytesOf (p .size)
+
+-- .. and that of one of them, with the bytes of an element and of the lanes that take it as they were found
+pub record ReplicateIn (p : Plan) (s : List ℕ) (j b end n : ℕ) : Type 0 where
+  pub all : ReplicatesIn p s n
+  pub there : j < p .elements
+  pub size : b ≡ bytesOf (p .size)
+  pub filled : end ≡ p .filled * b
+
+-- no predicate is asked
+abbrev pub ReplicateOut : Plan → List ℕ → ℕ → ℕ → List ℕ → Type 0
+ReplicateOut p s j n dst = (pred : List ℕ) → dst ≡ registerOf (answersFrom s p) p pred j n
+
+-- .. in a vector file of registers of n bytes
+abbrev pub DestinationOut : Plan → List ℕ → ℕ → ℕ → List ℕ → List ℕ → Type 0
+DestinationOut p s j n z z′ = (pred : List ℕ) → z′ ≡ replaced z (destinationOf p j * n) n (registerOf (answersFrom s p) p pred j n)
+
+abbrev pub ReplicatesOut : Plan → List ℕ → ℕ → List ℕ → List ℕ → Type 0
+ReplicatesOut p s n z z′ = (pred : List ℕ) → z′ ≡ vectorsAfter (answersFrom s p) p pred n z (p .elements)

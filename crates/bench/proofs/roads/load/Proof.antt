@@ -23,22 +23,23 @@ module _ (b : tie.After-bytes) where
   bytes = ap (λ (k : ℕ). g .args .plan .elements * k) (b .bytes .ensures)
 
   most : g .args .plan .elements * b .bytes .result ≤ 2048
-  most = rw bytes (small _ (g .args .plan .size) (g .pre .1 .sound .elements))
+  most = rw bytes (small _ (g .args .plan .size) (g .pre .1 .0 .sound .elements))
 
   some : 0 < g .args .plan .elements * b .bytes .result
-  some = rw bytes (mul-pos (g .pre .1 .sound .some) (bytes-some (g .args .plan .size)))
+  some = rw bytes (mul-pos (g .pre .1 .0 .sound .some) (bytes-some (g .args .plan .size)))
 
 pub load-spec : {M : Type 1} → statement M
 load-spec =
     tie.close (tie.spec (λ c κs. tt)
     (λ c. fits-below {n = 2048} tt (most (c .before)))
     (λ c κs. (g (c .before) .pre .0, (some (c .before), le-trans (most (c .before)) (lit≤ tt))))
-    (λ c κs. let b = c .before .before .before .before in record { fit = g b .pre .1; long = c .before .if1 .taken ∙ bytes b }) (λ c κs. tt)
+    (λ c κs. let b = c .before .before .before .before in (g b .pre .1 .0, c .before .if1 .taken ∙ bytes b, g b .pre .1 .1))
     (λ c. search needs)
     (λ c.
-    let b = c .before .before .before .before .before .before .before .before in
-    let all-together = c .before .before .before .before .before .before .find .ensures (c .before .before .before .before .before .if1 .taken) in
-    alike _ (g b .args .plan) _ _ (now (g b .args .dst)) (g b .pre .1 .sound .some) (stretch-answers _ _ _ _ all-together (g b .args .plan) refl (bytes b))
-    (c .before .before .before .fill .ensures) (c .ended .ensures))
-    (λ c κs. let b = c .before .before .before .before in (g b .pre .1 .sound, (g b .pre .1 .most, g b .pre .1 .whole))) (λ c. search needs)
+    let b = c .before .before .before .before .before .before .before in
+    let all-together = c .before .before .before .before .before .find .ensures (c .before .before .before .before .if1 .taken) in
+    alike _ (g b .args .plan) _ _ (now (g b .args .z)) _ (g b .pre .1 .0 .sound .some) (stretch-answers _ _ _ _ all-together (g b .args .plan) refl (bytes b))
+    (c .before .before .from-stretch .ensures))
+    (λ c κs. let b = c .before .before .before .before in (g b .pre .1 .0 .sound, (g b .pre .1 .1, g b .pre .1 .0 .most, g b .pre .1 .0 .whole)))
+    (λ c. search needs)
     (λ c. c .before .before .one-by-one .ensures))

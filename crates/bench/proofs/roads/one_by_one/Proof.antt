@@ -27,7 +27,7 @@ one-by-one-spec =
     let t = c .before .before .before .before in
     record {
       report = t .before .before .survey .ensures;
-      register = rw (eq-eqb _ _ (sym (t .before .number .ensures) ∙ t .if1 .taken))
-          (c .before .before .written .ensures);
+      vectors = rw (eq-eqb _ _ (sym (t .before .number .ensures) ∙ t .if1 .taken))
+          (c .before .before .destinations .ensures);
     })
-    (λ c. record { report = c .before .before .survey .ensures; register = rw (ne-eqb _ _ (λ e. c .if1 .left (c .before .number .ensures ∙ e))) }))
+    (λ c. record { report = c .before .before .survey .ensures; vectors = rw (ne-eqb _ _ (λ e. c .if1 .left (c .before .number .ensures ∙ e))) }))

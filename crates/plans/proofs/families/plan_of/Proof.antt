@@ -7,7 +7,8 @@ use Rattle.plans.proofs.families.plan_of.Tie as tie
 pub plan-of-spec : {M : Type 1} → statement M
 unfolding spreadOf
 plan-of-spec =
-    tie.close (tie.spec (λ c. c .match .keys1) (λ c κs. tt) (λ c. c .match .keys2) (λ c κs. tt) (λ c. c .match .keys3)
+    tie.close (tie.spec (λ c. c .match .keys1)
+    (λ c κs. c .before .before .before .before .pre .0 .few) (λ c. c .match .keys2) (λ c κs. tt) (λ c. c .match .keys3)
     (λ c κs.
     let g = c .before .before .before .before in
     let h = rw (c .before .shape3 .given .1) at (g .pre .0 .shape) in

@@ -2,6 +2,7 @@
 use mathlib.Core.Path.{_≡_, _∙_}
 use mathlib.Core.Logic.{⊎-elim}
 use lib.Dec.{eqb}
+use borrow.Author.Needs.{needs}
 use borrow.Author.Tests.{eq-eqb, ne-eqb}
 use Rattle.ground.specs.Choices.{if_then_else_}
 use Rattle.ground.proofs.Sizes.{bytes-some}
@@ -15,9 +16,9 @@ pub replicate-spec : {M : Type 1} → statement M
 replicate-spec =
     tie.close (tie.spec (λ c κs. tt)
     (λ c. rw (c .before .bytes .ensures) (bytes-some (c .before .before .before .before .before .args .insn .element .lane)))
-    (λ c κs. tt) (λ c κs. tt) (λ c κs. tt) (λ c κs. tt)
+    (λ c κs. tt) (λ c. search needs) (λ c κs. c .before .before .before .before .before .before .before .pre) (λ c κs. tt) (λ c κs. tt)
     (λ c.
-    let j = c .before .before .before .before .before in
+    let j = c .before .before .before .before .before .before in
     c .plan-with .ensures
-    ∙ rw (chosen (j .before), j .bytes .ensures, c .before .before .before .scalar .ensures)
+    ∙ rw (chosen (j .before), j .bytes .ensures, c .before .before .before .before .scalar .ensures)
     (rw (c .before .before .amount .ensures, c .before .writes .ensures))))

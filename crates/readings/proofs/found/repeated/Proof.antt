@@ -5,10 +5,10 @@ use Rattle.readings.proofs.found.repeated.Statement.{statement}
 use Rattle.readings.proofs.found.repeated.Tie as tie
 
 abbrev Inv-loop : tie.InvT-loop
-Inv-loop z vl width n unit e₀ e = unit ≤ e
+Inv-loop z vl r width n unit e₀ e = unit ≤ e
 
 abbrev μ-loop : tie.MeasureT-loop
-μ-loop z vl width n unit e₀ e = n - e
+μ-loop z vl r width n unit e₀ e = n - e
 
 pub repeated-spec : {M : Type 1} → statement M
 repeated-spec =

@@ -5,10 +5,10 @@ use Rattle.readings.proofs.found.zero_from.Statement.{statement}
 use Rattle.readings.proofs.found.zero_from.Tie as tie
 
 abbrev Inv-loop : tie.InvT-loop
-Inv-loop z vl width n first e₀ e = Unit {0}
+Inv-loop z vl r width n first e₀ e = Unit {0}
 
 abbrev μ-loop : tie.MeasureT-loop
-μ-loop z vl width n first e₀ e = n - e
+μ-loop z vl r width n first e₀ e = n - e
 
 pub zero-from-spec : {M : Type 1} → statement M
 zero-from-spec =
