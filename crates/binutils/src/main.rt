@@ -17,15 +17,21 @@ use words::Insn;
 use words::Offset;
 use words::Shape;
 
+// How many rows the table has.
+const ROWS: usize = 18;
+
+// The last row, which is of all words.
+const ALL: usize = ROWS - 1;
+
 // How far the input is read: where the next line begins, and its number; whether to read on, and whether every line was in the form.
-// Then for each row of the table how many words are such, and how many of these agree; the last row is of all words.
+// Then for each row of the table how many words are such, and how many of these agree.
 struct Run {
     at: u64,
     line: u64,
     open: bool,
     sound: bool,
-    words: [u64; 12],
-    agree: [u64; 12],
+    words: [u64; ROWS],
+    agree: [u64; ROWS],
 }
 
 // Which of two rows: that of an immediate offset, or that of a scalar one.
@@ -36,21 +42,28 @@ fn either(offset: Offset, immediate: usize, scalar: usize) -> usize {
     }
 }
 
+// The row of LD1R to LD4R: two rows for each number of registers. A number that is none of these has a text that agrees with no line,
+// so it does not matter in which row it is counted.
+fn replicate_row(registers: u32, back: Back) -> usize {
+    let before = (std::num::wrapping_sub_u32(registers, 1) % 4 * 2) as usize;
+    match back {
+        Back::Keep => before,
+        Back::Post(_) => before + 1,
+    }
+}
+
 // The row of a load: its family.
 fn family(insn: Insn) -> usize {
     let shape = insn.shape;
     match shape {
-        Shape::Replicate { q: _, back } => match back {
-            Back::Keep => 0,
-            Back::Post(_) => 1,
-        },
-        Shape::ByElement { imm6: _ } => 2,
-        Shape::Contiguous { offset } => either(offset, 3, 4),
+        Shape::Replicate { q: _, back } => replicate_row(insn.registers, back),
+        Shape::ByElement { imm6: _ } => 8,
+        Shape::Contiguous { offset } => either(offset, 9, 10),
         Shape::Block { wide, offset } => {
             if wide {
-                return either(offset, 7, 8);
+                return either(offset, 13, 14);
             }
-            either(offset, 5, 6)
+            either(offset, 11, 12)
         }
     }
 }
@@ -58,8 +71,8 @@ fn family(insn: Insn) -> usize {
 // The row of a word.
 fn row(decoded: Decoded) -> usize {
     match decoded {
-        Decoded::Outside => 9,
-        Decoded::Undefined => 10,
+        Decoded::Outside => 15,
+        Decoded::Undefined => 16,
         Decoded::Is(insn) => family(insn),
     }
 }
@@ -97,13 +110,13 @@ fn disagreement(number: u64, line: &[u8], ours: Text) {
 }
 
 // One more in a row, and in the row of all words, where there is one to count.
-fn counted(counts: [u64; 12], row: usize, one: bool) -> [u64; 12] {
+fn counted(counts: [u64; ROWS], row: usize, one: bool) -> [u64; ROWS] {
     let mut c = counts;
     if one {
-        if row < 11 {
+        if row < ALL {
             c[row] = std::num::wrapping_add_u64(c[row], 1);
         }
-        c[11] = std::num::wrapping_add_u64(c[11], 1);
+        c[ALL] = std::num::wrapping_add_u64(c[ALL], 1);
     }
     c
 }
@@ -179,8 +192,8 @@ fn all() -> Run {
         line: 1,
         open: true,
         sound: true,
-        words: [0; 12],
-        agree: [0; 12],
+        words: [0; ROWS],
+        agree: [0; ROWS],
     };
     let mut turns = u64::MAX;
     while turns > 0 && run.open {
@@ -198,14 +211,14 @@ fn counts(agree: u64, words: u64) {
 }
 
 // Writes a form, with the next row's counts for each %.
-fn report(form: &[u8], agree: [u64; 12], words: [u64; 12]) {
+fn report(form: &[u8], agree: [u64; ROWS], words: [u64; ROWS]) {
     let mut i = 0;
     let mut row = 0;
     while i < form.len() {
         let c = form[i];
         if c != b'%' {
             io::write_all(STDOUT_FILENO, &[c]);
-        } else if row < 12 {
+        } else if row < ROWS {
             counts(agree[row], words[row]);
             row += 1;
         }
@@ -221,6 +234,12 @@ fn main() {
     let form = b"family           agree\n\
         LD1R no offset   %\n\
         LD1R post-index  %\n\
+        LD2R no offset   %\n\
+        LD2R post-index  %\n\
+        LD3R no offset   %\n\
+        LD3R post-index  %\n\
+        LD4R no offset   %\n\
+        LD4R post-index  %\n\
         LD1R by element  %\n\
         LD1 immediate    %\n\
         LD1 scalar       %\n\

@@ -77,16 +77,13 @@ fn filled(start: Text, form: &[u8], values: &[u32]) -> Text {
     t
 }
 
-// The text of a load up to its target's number, with what every load has behind that: its lanes' size, the predicate where one governs
-// it, and its base.
+// The text of a load up to its last target, with what every load has behind that: the predicate where one governs it, and its base.
 fn based(t: Text, insn: Insn) -> Text {
-    let element = insn.element;
-    let lane = element.lane;
-    let named = filled(t, b"L}", &[log(lane)]);
+    let listed = t.and(b"}");
     let governing = insn.governing;
     let governed = match governing {
-        Governing::None => named,
-        Governing::By(pg) => filled(named, b", pN/z", &[pg]),
+        Governing::None => listed,
+        Governing::By(pg) => filled(listed, b", pN/z", &[pg]),
     };
     filled(governed, b", [B", &[insn.base])
 }
@@ -94,24 +91,60 @@ fn based(t: Text, insn: Insn) -> Text {
 // An SVE load of this name and of elements of 2^k bytes in memory, up to its base.
 fn sve(name: &[u8], k: u32, insn: Insn) -> Text {
     let element = insn.element;
+    let lane = element.lane;
     let sign = if element.signed { 1 } else { 0 };
-    let t = filled(Text::of(name), b"SE {zN.", &[sign, k, insn.target]);
-    based(t, insn)
+    let values = [sign, k, insn.target, log(lane)];
+    based(filled(Text::of(name), b"SE {zN.L", &values), insn)
 }
 
-// What LD1R of an element of 2^k bytes adds to its base afterwards. Register 31 stands for the element's bytes.
-fn written(t: Text, back: Back, k: u32) -> Text
-    requires { ⌜ k < 32 ⌝ }
-{
+// A v register of so many lanes of 2^k bytes.
+fn vector(t: Text, register: u32, lanes: u32, k: u32) -> Text {
+    filled(t, b"vN.NL", &[register, lanes, k])
+}
+
+// So many v registers from the first on. binutils prints three and more as the first and the last, but for a list that passes from 31
+// to 0: there, as where there are two, each is printed.
+fn vectors(start: Text, first: u32, registers: u32, lanes: u32, k: u32) -> Text {
+    let mut t = vector(start, first, lanes, k);
+    let end = std::num::wrapping_add_u32(first, registers);
+    if (2 < registers) & (end <= 32) {
+        let last = std::num::wrapping_sub_u32(end, 1);
+        return vector(t.and(b"-"), last, lanes, k);
+    }
+    let mut i = 1;
+    while i < registers {
+        let next = std::num::wrapping_add_u32(first, i) % 32;
+        t = vector(t.and(b", "), next, lanes, k);
+        i += 1;
+    }
+    t
+}
+
+// What LD1R to LD4R add to their base afterwards. Register 31 stands for the bytes that are read.
+fn written(t: Text, back: Back, bytes: u32) -> Text {
     match back {
         Back::Keep => t,
         Back::Post(rm) => {
             if rm == 31 {
-                return filled(t, b", #N", &[1 << k]);
+                return filled(t, b", #N", &[bytes]);
             }
             filled(t, b", xN", &[rm])
         }
     }
+}
+
+// LD1R to LD4R of elements of 2^k bytes, one for each register. q chooses 16 bytes of lanes, or 8. How many lanes is told by the
+// element's size in memory, and their letter by the lane's: so the line tests both.
+fn replicated(insn: Insn, k: u32, q: u32, back: Back) -> Text
+    requires { ⌜ k < 32 ⌝ }
+{
+    let element = insn.element;
+    let lane = element.lane;
+    let registers = insn.registers;
+    let width = if q == 0 { 8 } else { 16 };
+    let name = filled(Text::of(b"ld"), b"Nr {", &[registers]);
+    let list = vectors(name, insn.target, registers, width >> k, log(lane));
+    written(based(list, insn).and(b"]"), back, registers << k)
 }
 
 // A signed field of four bits, times 2^k, and what is printed behind it. Zero is not printed.
@@ -150,12 +183,7 @@ pub(crate) fn load(insn: Insn) -> Text {
     let k = log(memory);
     let shape = insn.shape;
     match shape {
-        // q chooses 16 bytes of lanes, or 8
-        Shape::Replicate { q, back } => {
-            let bytes = if q == 0 { 8 } else { 16 };
-            let start = filled(Text::of(b"ld1r"), b" {vN.N", &[insn.target, bytes >> k]);
-            written(based(start, insn).and(b"]"), back, k)
-        }
+        Shape::Replicate { q, back } => replicated(insn, k, q, back),
         // the field counts elements, and bytes are printed
         Shape::ByElement { imm6 } => {
             let t = sve(b"ld1r", k, insn);
@@ -176,13 +204,13 @@ pub(crate) fn load(insn: Insn) -> Text {
     }
 }
 
-// Whether a text that binutils prints is a listed load: LD1R of a v register; or one of these mnemonics, of one z register, with no
-// vector in the brackets. Gathers and loads of a tile of ZA share mnemonics with LD1.
+// Whether a text that binutils prints is a listed load: LDnR of v registers, whatever n is; or one of these mnemonics, of one z register,
+// with no vector in the brackets. Gathers and loads of a tile of ZA share mnemonics with LD1.
 pub(crate) fn listed(text: &[u8]) -> bool {
     let one =
         b"ld1b ld1h ld1w ld1d ld1sb ld1sh ld1sw ld1rb ld1rh ld1rw ld1rd ld1rsb ld1rsh ld1rsw ";
     let many = b"ld1rqb ld1rqh ld1rqw ld1rqd ld1rob ld1roh ld1row ld1rod ";
-    if has_at(text, 0, b"ld1r {v") {
+    if has_at(text, 0, b"ld") & has_at(text, 3, b"r {v") {
         return true;
     }
     let end = find(text, b" {z");
