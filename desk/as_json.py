@@ -1,12 +1,14 @@
 """A script's steps for another program. Numbers of 64 bits are strings in hexadecimal, since many readers of JSON keep 53 bits; a float
-that JSON has no number for is a string."""
+that JSON has no number for is a string. A step of a word that has a text has `destinations`, a list in the order of the load, of one or
+more; and `destination` where there is one alone, so that who knows no more than one never takes the first of several for all."""
 
 import json
 import math
 from typing import Any
 
 from desk.bench import Area, Script
-from desk.telling import Lane, Told, as_float, digits, shows_floats
+from desk.telling import Destination, Lane, Told, as_float, digits, shows_floats
+from desk.words import Shown
 
 
 def number(value: float) -> float | str:
@@ -18,6 +20,11 @@ def lane(cell: Lane, floats: bool) -> dict[str, Any]:
     if floats:
         found |= {"before_float": number(as_float(cell.before)), "after_float": number(as_float(cell.after))}
     return found
+
+
+def destination(into: Destination, shown: Shown) -> dict[str, Any]:
+    cells = [lane(cell, shows_floats(shown)) for cell in into.lanes]
+    return {"register": into.register, "lane_bits": shown.lane_bits, "lanes": cells}
 
 
 def change(before: int, after: int) -> dict[str, str]:
@@ -39,9 +46,9 @@ def step(told: Told) -> dict[str, Any]:
         "pc": change(*told.scalar("pc")),
     }
     if shown:
-        floats = shows_floats(shown)
-        cells = [lane(cell, floats) for cell in told.lanes]
-        found["destination"] = {"register": f"z{shown.target}", "lane_bits": shown.lane_bits, "lanes": cells}
+        found["destinations"] = [destination(into, shown) for into in told.destinations]
+        if len(shown.targets) == 1:
+            found["destination"] = found["destinations"][0]
         found["base"] = {"register": shown.base} | change(*told.scalar(shown.base))
         if shown.index:
             found["index"] = {"register": shown.index} | change(*told.scalar(shown.index))

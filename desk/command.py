@@ -18,7 +18,7 @@ usage: ./kj [--json] [--cases OUT] [--program COMMAND] FILE
 Steps Arm vector loads on a bench that is written down in FILE, by the proved program, and shows each answer and what changed.
 Try it:  ./kj demo/crossing-north.toml
 
-  --json             one JSON document instead of text
+  --json             one JSON document instead of text (below)
   --cases OUT        write the cases that were stepped to the file OUT as well (docs/CASES.md); ./replay < OUT steps them again
   --program COMMAND  step by another program that reads cases and writes outcomes (docs/CASES.md), such as
                      'second/target/release/second answer', in place of the proved one; the first line then says so
@@ -51,6 +51,11 @@ A right may be a number: the rights byte itself. A number may be a string in hex
 The words are stepped one after the other on what the step before left; after an answer other than 0 the bench is as it
 was, and the next word is stepped on that. What the bench does not accept, a vl of 100 say, is lent as it is written and
 answered with 1. The program is proved and built first if need be, which takes some minutes once.
+
+In JSON each step of a word that has an assembler text has "destinations": an object for each register that it names for
+what it reads, in its order (31 is followed by 0), with "register", "lane_bits" and "lanes", lane 0 first, each of which has
+"before" and "after". A load of one register has the same object as "destination" too; LD2R, LD3R and LD4R do not.
+Lanes and numbers of 64 bits are strings in hexadecimal; a lane that may be a float has "before_float" and "after_float".
 
 exit status: 0 all words were stepped, whatever the answers; 2 the file or the arguments cannot be used, or the program
 cannot be built or run, and one line on standard error says why.

@@ -78,23 +78,22 @@ def scalar(told: Told, name: str, paint: Paint) -> str:
 
 
 def others(told: Told) -> list[str]:
-    """What changed beyond destination, base and PC: nothing ever should, and if it did it is said."""
+    """What changed beyond destinations, base and PC: nothing ever should, and if it did it is said."""
     if not told.changed:
         return ["   no register and no scalar changed"]
-    named = {"pc"} | ({f"z{told.shown.target}", told.shown.base} if told.shown else set())
+    named = {"pc"} | {into.register for into in told.destinations} | ({told.shown.base} if told.shown else set())
     return [f"   {name} changed too" for name in told.changed if name not in named]
 
 
 def lanes(told: Told, shown: Shown, paint: Paint) -> list[str]:
-    """The destination: a line for each lane that may be a float, else rows of 16 bytes."""
+    """The destinations, one below the other: a line for each lane that may be a float, else rows of 16 bytes."""
     text, row = (float_cell, 1) if shows_floats(shown) else (digits, 128 // shown.lane_bits)
-    cells = told.lanes
-    rows = [cells[first : first + row] for first in range(0, len(cells), row)]
-    olds = [" ".join(text(lane.before) for lane in line) for line in rows]
-    news = [" ".join(text(lane.after) for lane in line) for line in rows]
+    rows = [(into.register, into.lanes[at : at + row]) for into in told.destinations for at in range(0, len(into.lanes), row)]
+    names = [f"{register}.{shown.lane}" if line[0].number == 0 else "" for register, line in rows]
+    olds = [" ".join(text(lane.before) for lane in line) for _, line in rows]
+    news = [" ".join(text(lane.after) for lane in line) for _, line in rows]
     wide = max(map(len, olds), default=0)
-    places = [f"[{line[0].number}]" for line in rows]
-    names = [f"z{shown.target}.{shown.lane}"] + [""] * len(rows)
+    places = [f"[{line[0].number}]" for _, line in rows]
     far = max(map(len, places), default=0)
     changes = [arrow(f"{old:<{wide}}", new, paint) for old, new in zip(olds, news)]
     return [f"   {name:<5} {place:<{far}} {change}" for name, place, change in zip(names, places, changes)]

@@ -8,13 +8,13 @@ from desk.bench import SCALARS, VECTORS, Bench, Step
 from desk.cases import Outcome
 from desk.words import Shown, disassemble
 
-# document 01, "When the bench says no"
+# document 01, "When the bench says no", where LD2R to LD4R of document 02, One, stand with LD1R
 ANSWERS = {
     0: ("ran", ""),
     1: ("set-up", "VL, or an area's length, rights, start or end, is not allowed, or the areas share an address"),
     2: ("outside", "no family row fits the word's fixed bits"),
-    3: ("undefined", "LD1R with L=0 or S=1, a scalar form with Rm = 31, or LD1RO without F64MM or with VL under 256"),
-    4: ("switched off", "LD1R with SIMD off, or any other with SVE off"),
+    3: ("undefined", "LD1R to LD4R with L=0 or S=1, a scalar form with Rm = 31, or LD1RO without F64MM or with VL under 256"),
+    4: ("switched off", "LD1R to LD4R with SIMD off, or any other with SVE off"),
     5: ("stack", "SP is the base and no multiple of 16"),
     6: ("no memory", "a byte of an active lane lies in neither area"),
     7: ("denied", "a byte of an active lane lies in a page without the read right"),
@@ -27,6 +27,14 @@ class Lane:
     number: int
     before: bytes
     after: bytes
+
+
+@dataclass
+class Destination:
+    """A register that a load names for what it reads."""
+
+    register: str
+    lanes: list[Lane]
 
 
 @dataclass
@@ -43,13 +51,15 @@ class Told:
         return ANSWERS.get(self.outcome.answer, ("no answer of document 01", ""))
 
     @property
-    def lanes(self) -> list[Lane]:
-        """The destination, lane by lane, lane 0 first."""
+    def destinations(self) -> list[Destination]:
+        """In the order in which elements go to them, which may lead from 31 to 0."""
         if self.shown is None:
             return []
-        size = self.shown.lane_bits // 8
-        before = self.before.register(self.shown.target)
-        after = self.outcome.bench.register(self.shown.target)
+        return [Destination(f"z{target}", self.lanes(target, self.shown.lane_bits // 8)) for target in self.shown.targets]
+
+    def lanes(self, register: int, size: int) -> list[Lane]:
+        """A vector register by lanes of so many bytes, lane 0 first."""
+        before, after = self.before.register(register), self.outcome.bench.register(register)
         return [Lane(n, before[n * size : (n + 1) * size], after[n * size : (n + 1) * size]) for n in range(len(after) // size)]
 
     @property

@@ -1,12 +1,15 @@
 """A word as assembler text, spelt as binutils spells it, with what its text names. For showing alone: what a word does, and whether
-it is a load at all, is the proved program's answer. The gate holds these texts to the 38,000 lines of binutils in crates/binutils/stdin."""
+it is a load at all, is the proved program's answer. The gate holds these texts to the 39,000 lines of binutils in crates/binutils/stdin."""
 
 from dataclasses import dataclass
 
-# The family rows of document 01; a letter stands for a bit of its field. LD1R's have L = 1 and S = 0, since its others are undefined.
+from desk.bench import VECTORS
+
+# The family rows of document 01, with those of document 02, One; a letter stands for a bit of its field. LD1R to LD4R share a row for
+# each way to address, since o and r together are the number of registers less 1. Their L is 1 and their S is 0: others are undefined.
 ROWS = {
-    "ld1r": "0q001101 0 1 0 00000 110 0 ss nnnnn ttttt",
-    "ld1r post": "0q001101 1 1 0 mmmmm 110 0 ss nnnnn ttttt",
+    "replicate": "0q001101 0 1 r 00000 11o 0 ss nnnnn ttttt",
+    "replicate post": "0q001101 1 1 r mmmmm 11o 0 ss nnnnn ttttt",
     "ld1r element": "1000010 aa 1 iiiiii 1 bb ggg nnnnn ttttt",
     "ld1 imm": "1010010 dddd 0 iiii 101 ggg nnnnn ttttt",
     "ld1 reg": "1010010 dddd mmmmm 010 ggg nnnnn ttttt",
@@ -26,12 +29,12 @@ SIZES = "bhwd"
 
 @dataclass(frozen=True)
 class Shown:
-    """The text of a load, and the registers that it names: the destination with the size of its lanes, the governing predicate, the
-    base and the index, none where there is none. `whole`: the lane is as wide as what was read into it, so that a lane of 32 or 64
-    bits may be a float."""
+    """The text of a load, and the registers that it names: the destinations in their order with the size of their lanes, the governing
+    predicate, the base and the index, none where there is none. `whole`: the lane is as wide as what was read into it, so that a lane
+    of 32 or 64 bits may be a float."""
 
     text: str
-    target: int
+    targets: tuple[int, ...]
     lane: str
     predicate: int | None
     base: str
@@ -88,16 +91,26 @@ def address(family: str, f: dict[str, int], memory: str) -> str:
     return f"[{base}, #{offset}]" if offset else f"[{base}]"
 
 
+def structure(targets: tuple[int, ...], lanes: str) -> str:
+    """A list of V registers. binutils writes three or more as a range, but not where 31 is followed by 0."""
+    names = [f"v{target}.{lanes}" for target in targets]
+    if len(names) > 2 and targets[0] < targets[-1]:
+        return f"{{{names[0]}-{names[-1]}}}"
+    return f"{{{', '.join(names)}}}"
+
+
 def advanced(family: str, f: dict[str, int]) -> Shown:
-    """LD1R of source document 004, which names V registers and no predicate."""
+    """LD1R to LD4R of source document 004, which name V registers and no predicate."""
     lane = LANES[f["s"]]
-    count = (16 if f["q"] else 8) >> f["s"]
+    registers = (f["o"] << 1 | f["r"]) + 1
+    targets = tuple((f["t"] + n) % VECTORS for n in range(registers))
     base = scalar(f["n"])
     index = scalar(f["m"]) if f.get("m", 31) != 31 else None
-    text = f"ld1r {{v{f['t']}.{count}{lane}}}, [{base}]"
-    if family == "ld1r post":
-        text += f", {index}" if index else f", #{1 << f['s']}"
-    return Shown(text, f["t"], lane, None, base, index, True)
+    count = (16 if f["q"] else 8) >> f["s"]
+    text = f"ld{registers}r {structure(targets, f'{count}{lane}')}, [{base}]"
+    if family == "replicate post":
+        text += f", {index}" if index else f", #{registers << f['s']}"
+    return Shown(text, targets, lane, None, base, index, True)
 
 
 def predicated(family: str, f: dict[str, int]) -> Shown:
@@ -105,7 +118,7 @@ def predicated(family: str, f: dict[str, int]) -> Shown:
     memory, lane = sizes(f)
     text = f"{family.split()[0]}{memory} {{z{f['t']}.{lane}}}, p{f['g']}/z, {address(family, f, memory)}"
     index = scalar(f["m"]) if "m" in f else None
-    return Shown(text, f["t"], lane, f["g"], scalar(f["n"]), index, memory == SIZES[LANES.index(lane)])
+    return Shown(text, (f["t"],), lane, f["g"], scalar(f["n"]), index, memory == SIZES[LANES.index(lane)])
 
 
 def disassemble(word: int) -> Shown | None:

@@ -110,7 +110,7 @@ class Using(Benches):
     def test_help(self) -> None:
         ran = kj("--help")
         self.assertEqual((ran.returncode, ran.stderr), (0, ""))
-        for part in ("./kj demo/crossing-north.toml", "words =", "--json", "exit status"):
+        for part in ("./kj demo/crossing-north.toml", "words =", "--json", '"destinations"', "exit status"):
             self.assertIn(part, ran.stdout)
 
 
