@@ -22,7 +22,7 @@ typedef _Bool kjolvast_switch;
 struct kjolvast_numbers {
     unsigned long number;  // the answer: 0 ran, 1 set-up, 2 outside, 3 undefined, 4 switched off, 5 stack, 6 no memory, 7 denied
     unsigned long count;   // how many elements were read: all where it ran, those before the bad one for 6 and 7, else 0
-    unsigned long element; // the lane of the first bad byte for 6 and 7, else 0
+    unsigned long element; // the element of the first bad byte for 6 and 7, its lane, or of LD2R to LD4R its register from 0 on; else 0
     unsigned long address; // the address of the first bad byte for 6 and 7, else 0
 };
 
