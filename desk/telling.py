@@ -8,7 +8,7 @@ from desk.bench import SCALARS, VECTORS, Bench, Step
 from desk.cases import Outcome
 from desk.words import Shown, disassemble
 
-# document 01, "When the bench says no", where LD2R to LD4R of document 02, One, stand with LD1R
+# document 01, "When the bench says no", where LD2R to LD4R of document 02, One, stand with LD1R; these have elements, and no active lanes
 ANSWERS = {
     0: ("ran", ""),
     1: ("set-up", "VL, or an area's length, rights, start or end, is not allowed, or the areas share an address"),
@@ -16,8 +16,8 @@ ANSWERS = {
     3: ("undefined", "LD1R to LD4R with L=0 or S=1, a scalar form with Rm = 31, or LD1RO without F64MM or with VL under 256"),
     4: ("switched off", "LD1R to LD4R with SIMD off, or any other with SVE off"),
     5: ("stack", "SP is the base and no multiple of 16"),
-    6: ("no memory", "a byte of an active lane lies in neither area"),
-    7: ("denied", "a byte of an active lane lies in a page without the read right"),
+    6: ("no memory", "a byte of an active element lies in neither area"),
+    7: ("denied", "a byte of an active element lies in a page without the read right"),
 }
 NO_TEXT = "no assembler text"
 
