@@ -8,7 +8,7 @@ use Rattle.steps.specs.Demand1.{AllReadable, Ready}
 use Rattle.steps.specs.Demand2.{Done, Leaves, destination, laneIn}
 use Rattle.steps.specs.Lanes.{asked, elementAt, governingBytes}
 use Rattle.steps.specs.Plans.{planOf}
-use Rattle.steps.specs.Said.{K, LaneActive, N, copies, laneBytes}
+use Rattle.steps.specs.Said.{K, LaneActive, N, copies, laneBytes, m, offs}
 use Rattle.steps.specs.Step.{StepPromise}
 use Rattle.steps.specs.Terms.{scalar, signed4}
 use Rattle.steps.specs.declared.StepResult.{StepResult}
@@ -62,6 +62,10 @@ destination-is = Rattle.steps.proofs.Places.destination-is
 -- so that no register is a destination twice.
 pub destinations-apart : (i : Insn) → i .target < 32 → (j k : ℕ) → j < k → k < 32 → destination i j ≡ destination i k → ⊥
 destinations-apart = Rattle.steps.proofs.Places.destinations-apart
+
+-- Before read e of LD1R to LD4R, page 004's offset is e reads on, so that after the last it is "the sum of the reads".
+pub offs-sum : (i : Insn) (e : ℕ) → e * m i ≡ offs i e
+offs-sum = Rattle.steps.proofs.Places.offs-sum
 
 -- An inactive lane becomes zero: of LD1,
 pub inactive-zero : (l : Lent) (w : ℕ) (b : Bench) (r : StepResult) (l₁ : Lent) (b₁ : Bench) (promise : StepPromise l w b r l₁ b₁) (i : Insn)

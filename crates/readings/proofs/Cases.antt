@@ -185,17 +185,21 @@ benchBy u =
 
 -- Outcomes
 
--- "ran": a count, register t's bytes, and the scalars that change beside PC, which grows from 1,000 to 1,004 where it is not named
-abbrev pub ran : ℕ → SetUp → ℕ → ℕ → List ℕ → List Named → StarredCase
-ran w u count t bytes changed =
+-- "ran": a count, the vector file, and the scalars that change beside PC, which grows from 1,000 to 1,004 where it is not named
+abbrev pub ranWith : ℕ → SetUp → ℕ → List ℕ → List Named → StarredCase
+ranWith w u count file changed =
     record {
       word = w;
       lent = lentBy u;
       bench = benchBy u;
       report = record { number = 0; count = count; element = 0; address = 0 };
-      vectors = fileWith (oldZ (u .settings .vl)) 32 t bytes;
+      vectors = file;
       scalars = scalarsOf (changed ++ (pc ≔ 1004 ∷ old (u .named)));
     }
+
+-- .. with register t's bytes, and no other register changed
+abbrev pub ran : ℕ → SetUp → ℕ → ℕ → List ℕ → List Named → StarredCase
+ran w u count t bytes changed = ranWith w u count (fileWith (oldZ (u .settings .vl)) 32 t bytes) changed
 
 -- any other answer, with its count, lane and address: "changes no byte or number of the bench"
 abbrev pub faults : ℕ → SetUp → ℕ → ℕ → ℕ → ℕ → StarredCase

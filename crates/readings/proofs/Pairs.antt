@@ -268,6 +268,17 @@ pairs =
       differ = 4104;
       right = true;
     }
+    -- LD2R {V31.16B, V0.16B}, [X0]: of the page, all but the two bytes that go to the two registers are others
+    ∷ record {
+      word = 0x4D60C01F;
+      setUp = lower 128;
+      flash = rising 1 2 ++ nines 14;
+      flashRights = 1 ∷ [];
+      ram = zeros 16;
+      ramRights = 0 ∷ [];
+      differ = 4098;
+      right = true;
+    }
     ∷ []
 
 pub computed : all (λ p. allOf (tests p)) pairs ≡ true

@@ -49,6 +49,8 @@ refused =
     ∷ refusing 5 0x4D40C3E0 (setUpWith (allOn 128) (allActive 128) (page (rising 1 32)) empty (sp ≔ 4104 ∷ []))
     ∷ refusing 6 0xA5E0A020 (plain (allOn 128))
     ∷ refusing 7 0xA5E0A000 (setUpWith (allOn 128) (allActive 128) (zoneWith 4096 (rising 1 32) (254 ∷ [])) empty (0 ≔ 4096 ∷ []))
+    -- LD3R {V0.4S - V2.4S}, [X0] over ten bytes: two elements can be read, and the third not
+    ∷ refusing 6 0x4D40E800 (setUpWith (allOn 128) (allActive 128) (page (rising 1 10)) empty (0 ≔ 4096 ∷ []))
     ∷ []
 
 -- it is told, and is not 0; the bench is as it was; and so says the promise, with document 01's row

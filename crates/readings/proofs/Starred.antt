@@ -1,5 +1,5 @@
 -- The starred readings of the scope of work, as one statement over one table of cases, by computation.
-use Prim.Native.Nat.{_+_, _-_, _^_}
+use Prim.Native.Nat.{ℕ, _+_, _-_, _^_}
 use mathlib.Core.Path.{refl}
 use mathlib.Core.List.{List, [], _∷_, _++_}
 use Rattle.ground.specs.Lists.{replaced}
@@ -16,8 +16,8 @@ use Rattle.steps.specs.Plans.{spreadOf}
 use Rattle.steps.specs.Lanes.{governingBytes, bitOf, isActive, wanted, asked, laneTakes, checksStack, laneElement, destinationsIn, destinationOf, elementAt}
 use Rattle.steps.specs.Outcomes.{answersIn, surveyOf, extended, laneValue, registerByte, registerOf, vectorsAfter, baseAfter, scalarsAfter, benchAfter, outcomeOf}
 use Rattle.steps.specs.Step.{stackFails, refusals, plannedLoad, plannedOf, preparedOf, stepOf}
-use Rattle.readings.proofs.Cases.{StarredCase, Ended, isRight, allActive, noneActive, only, _≔_, sp, pc, zoneWith, empty, page, allOn}
-use Rattle.readings.proofs.Cases.{sveOff, simdOff, f64mmAndSveOff, setUpWith, ran, faults, refuses, rising, eight, zeros, nines, copies, plain}
+use Rattle.readings.proofs.Cases.{StarredCase, Ended, isRight, registers, oldZ, allActive, noneActive, only, _≔_, sp, pc, zoneWith, empty, page, allOn}
+use Rattle.readings.proofs.Cases.{sveOff, simdOff, f64mmAndSveOff, setUpWith, ranWith, ran, faults, refuses, rising, eight, zeros, nines, copies, plain}
 use Rattle.readings.proofs.Tests.{ended}
 use Rattle.readings.proofs.Tables.{EachOf, each-of}
 
@@ -52,6 +52,10 @@ starred =
     ∷ faults 0xA5E0A000 (setUpWith (allOn 256) (only 256 0 (1 ∷ 1 ∷ 0 ∷ 0 ∷ [])) (zoneWith 0 (nines 8192) (1 ∷ 254 ∷ [])) empty (0 ≔ 4084 ∷ []))
     7 1 1 4096
     ∷ []
+
+-- 64 bits of the element a, a + 1, over and over, in a register of 256
+abbrev halves : ℕ → List ℕ
+halves a = copies 4 (rising a 2) ++ zeros 24
 
 -- rows of our own, each with wrong definitions that it refuses
 abbrev ours : List StarredCase
@@ -105,6 +109,12 @@ ours =
     16 9 (copies 2 (rising 1 32)) []
     -- LD1RO without F64MM, SVE off. Refused: the switch is asked before F64MM is.
     ∷ refuses 0xA5A02000 (plain (f64mmAndSveOff 256)) 3
+    -- LD4R {V30.4H, V31.4H, V0.4H, V1.4H}, [SP], #8. Refused: one read is added; the elements go to the registers from the last on, or
+    -- one of them to all; 31 is followed by none; a register beside the four changes.
+    ∷ ranWith 0x0DFFE7FE (setUpWith (allOn 256) (noneActive 256) (page eight) empty (sp ≔ 4096 ∷ []))
+    4 (halves 5 ++ halves 7 ++ registers (oldZ 256) 2 28 ++ halves 1 ++ halves 3) (sp ≔ 4104 ∷ [])
+    -- LD2R with S=1. Refused: S=1 is undefined of LD1R alone.
+    ∷ refuses 0x4D60D000 (plain (allOn 256)) 3
     ∷ []
 
 abbrev pub table : List StarredCase

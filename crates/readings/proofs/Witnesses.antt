@@ -7,7 +7,7 @@
 -- and nothing else (`demand-2-determined`). The pairs of demand 3 stand in Pairs.
 use Prim.Native.Nat.{ℕ, zero, suc, _-_, _*_, _/_, _%_, _^_, _≤_, _<_}
 use lib.ListN.{length, replicate}
-use mathlib.Core.Path.{_≡_, refl, sym, ap, subst}
+use mathlib.Core.Path.{_≡_, refl, sym, ap, subst, _∙_}
 use mathlib.Core.Bool.{Bool, true, false}
 use mathlib.Core.List.{List, [], _∷_}
 use native.Mathlib.Omega.{arith}
@@ -19,7 +19,7 @@ use Rattle.ground.specs.declared.Size.the-variants.{B8, B64}
 use Rattle.ground.proofs.Laws.{all-of, never, _&_}
 use Rattle.words.specs.Dtypes.{dtypes, dtypeOf}
 use Rattle.words.specs.Families.{scalarOf, families, readOf}
-use Rattle.memory.specs.Addresses.{wrapℤ, movedOf}
+use Rattle.memory.specs.Addresses.{wrapℤ, plusOf, movedOf}
 use Rattle.memory.specs.Areas.{isAreaAccepted, shareNone, areAreasAccepted, covers, placeOf}
 use Rattle.memory.specs.Bytes.{judged, lookOf}
 use Rattle.memory.specs.Elements.{readingOf}
@@ -27,7 +27,7 @@ use Rattle.memory.specs.declared.Reading.{Reading}
 use Rattle.memory.specs.declared.Reading.the-variants.{Value}
 use Rattle.steps.specs.Insns.{Insn, Shape, Replicate, ByElement, Contiguous, Block, None, By, Offset, Imm, Reg, Back, Keep, Post, Is}
 use Rattle.steps.specs.Benches.{Lent, Bench, InTypes, isAccepted}
-use Rattle.steps.specs.Terms.{signed4}
+use Rattle.steps.specs.Terms.{scalar, signed4}
 use Rattle.steps.specs.Plans.{spreadOf, planOf}
 use Rattle.steps.specs.Lanes.{governingBytes, bitOf, isActive, wanted, asked, laneTakes, checksStack, elementAt}
 use Rattle.steps.specs.Outcomes.{Outcome, answersIn, surveyOf, outcomeOf}
@@ -43,6 +43,7 @@ use Rattle.steps.proofs.Demand2.{demand-2, demand-2-promise, demand-2-runs, dem
 use Rattle.steps.proofs.Demand2.{ld1-immediate, ld1-scalar, ld1rq-immediate, ld1ro-immediate, block-scalar, ld1r-by-element, replicated}
 use Rattle.steps.specs.declared.Plan.{Plan}
 use Rattle.steps.proofs.Demand3.{demand-3-faults, demand-3-apart}
+use Rattle.steps.proofs.Places.{offs-sum}
 use Rattle.steps.proofs.Promise.{promise-met}
 use Rattle.steps.proofs.Touches.{ran-as}
 use Rattle.steps.proofs.Demand2.{inactive-zero, element-inactive-zero, block-inactive-zero, left-over-zero, rest-zero}
@@ -237,7 +238,7 @@ pub formulas-used : (l : Lent) (x : List ℕ) (e : ℕ)
     × Lies l x (doubles (Block false (Reg 1))) e × Lies l x (doubles (Block true (Reg 1))) e
 formulas-used l x e = (
   replicated l x (bytes 1 (Replicate 1 Keep)) 1 Keep refl 0,
-  replicated l x (bytes 4 (Replicate 0 (Post 31))) 0 (Post 31) refl e,
+  replicated l x (bytes 4 (Replicate 0 (Post 31))) 0 (Post 31) refl e ∙ ap (plusOf (scalar x 0)) (offs-sum (bytes 4 (Replicate 0 (Post 31))) e),
   ld1r-by-element l x (doubles (ByElement 0)) 0 refl,
   ld1-immediate l x (doubles (Contiguous (Imm 0))) 0 refl e,
   ld1-scalar l x (doubles (Contiguous (Reg 1))) 1 refl e,

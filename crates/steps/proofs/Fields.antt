@@ -19,6 +19,7 @@ use Rattle.steps.specs.Lanes.{destinationsIn}
 use Rattle.steps.specs.Demand1.{elementLimit}
 use Rattle.steps.specs.Demand2.{AddsAs}
 use Rattle.steps.specs.Demand2 as S
+use Rattle.steps.proofs.Places.{offs-sum}
 
 -- no load has more than 256 elements: a register has at most 256 bytes, and no more lanes of any size; a block has fewer
 pub lanes-most : (s : Size) (vl : ℕ) → vl ≤ 2048 → vl / (8 * bytesOf s) ≤ elementLimit
@@ -45,7 +46,7 @@ module _ (vl : ℕ) (x : List ℕ) (i : Insn) where
   -- the write-back is the scope's
   pub adds-back : (s : Shape) (a : ℕ) → AddsAs x i s a → (spreadOf vl x i s .back ≡ true) × (spreadOf vl x i s .amount ≡ a)
   unfolding spreadOf
-  adds-back s a (S.size {r = r} h) = (refl, rw (eq-eqb r 31 h))
+  adds-back s a (S.size {r = r} h) = (refl, rw (eq-eqb r 31 h) (offs-sum i (i .registers)))
   adds-back s a (S.register {r = r} h) = (refl, rw (ne-eqb r 31 h))
 
   pub back-adds : (s : Shape) → spreadOf vl x i s .back ≡ true → (a : ℕ) × AddsAs x i s a

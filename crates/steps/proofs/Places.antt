@@ -16,7 +16,7 @@ use Rattle.steps.specs.Benches.{Lent}
 use Rattle.steps.specs.Terms.{scalar, signed4, blockBytes}
 use Rattle.steps.specs.Plans.{spreadOf, planWith, planOf}
 use Rattle.steps.specs.Lanes.{elementAt}
-use Rattle.steps.specs.Said.{m, N, ActiveAs, Active, liesAs, lies, byteAt}
+use Rattle.steps.specs.Said.{m, N, ActiveAs, Active, offs, liesAs, lies, byteAt}
 use Rattle.steps.specs.Demand2.{destination}
 
 -- (s + e) × m
@@ -58,11 +58,16 @@ by-register a x e k = rw (add-mul x e k) (omega arith)
 pub at-first : (a e k : ℕ) → e ≡ 0 → plusOf a (e * k) ≡ wrap a
 at-first a e k h = rw (h, zero-mul, add-zero)
 
+-- before read e, so many reads were added up
+pub offs-sum : (i : Insn) (e : ℕ) → e * m i ≡ offs i e
+offs-sum i zero = zero-mul (m i)
+offs-sum i (suc e) = suc-mul e (m i) ∙ ap (λ (n : ℕ). n + m i) (offs-sum i e)
+
 module _ (l : Lent) (x : List ℕ) (i : Insn) where
   -- every active element lies where the scope of work says
   element-lies : (s : Shape) (e : ℕ) → ActiveAs s l i e → elementAt (planWith i (spreadOf (l .settings .vl) x i s)) e ≡ wrapℤ (liesAs s l x i e)
   unfolding elementAt spreadOf
-  element-lies (Replicate q back) e a = refl
+  element-lies (Replicate q back) e a = ap (plusOf (scalar x (i .base))) (offs-sum i e)
   element-lies (ByElement imm6) e a = at-first (wrap (scalar x (i .base) + imm6 * m i)) e _ (a .0) ∙ omega arith
   element-lies (Contiguous (Imm v)) e a = by-immediate (scalar x (i .base)) (signed4 v) (N l i) e (m i)
   element-lies (Contiguous (Reg r)) e a = by-register (scalar x (i .base)) (scalar x r) e (m i)

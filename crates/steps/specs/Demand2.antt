@@ -14,7 +14,7 @@ use Rattle.memory.specs.Said.{Holds, OneOf}
 use Rattle.steps.specs.Benches.{Lent, Bench, areasIn}
 use Rattle.steps.specs.Terms.{scalar}
 use Rattle.steps.specs.Demand1.{Ready, AllReadable}
-use Rattle.steps.specs.Said.{m, laneBytes, N, K, copies, LaneActive, byteAt}
+use Rattle.steps.specs.Said.{m, laneBytes, N, K, copies, LaneActive, offs, byteAt}
 
 -- "31 followed by 0"
 abbrev pub followed : ℕ → ℕ
@@ -60,9 +60,10 @@ pub record ElementValue (l : Lent) (b : Bench) (i : Insn) (e v : ℕ) : Type 0 w
   pub contained : (j : ℕ) → j < m i → Contains (areasIn l b) (byteAt l (b .scalars) i e j) (byte j)
   pub value : v ≡ little byte 0 (m i)
 
--- "Post-index adds the read's size when Rm = 31, else Xm as it was before the step"; of LD2R to LD4R, "the sum of the reads". No other shape has a case: it writes nothing back
+-- "Post-index adds the read's size when Rm = 31, else Xm as it was before the step"; of LD2R to LD4R, "the sum of the reads":
+-- what `offs` has become after the last. No other shape has a case: it writes nothing back
 pub data AddsAs (x : List ℕ) (i : Insn) : Shape → ℕ → Type 0 where
-  size : {q r : ℕ} → r ≡ 31 → AddsAs x i (Replicate q (Post r)) (i .registers * m i)
+  size : {q r : ℕ} → r ≡ 31 → AddsAs x i (Replicate q (Post r)) (offs i (i .registers))
   register : {q r : ℕ} → (r ≡ 31 → ⊥) → AddsAs x i (Replicate q (Post r)) (scalar x r)
 
 abbrev pub Adds : List ℕ → Insn → ℕ → Type 0

@@ -1,6 +1,6 @@
 -- Document 01's own words and formulas, as statements about an instruction and the lent bench. Nothing here uses the plan: the
 -- demands are stated in these words, and their proofs tie the plan to them.
-use Prim.Native.Nat.{ℕ, _+_, _*_, _/_, _%_, _^_, _≤_, _<_}
+use Prim.Native.Nat.{ℕ, zero, suc, _+_, _*_, _/_, _%_, _^_, _≤_, _<_}
 use mathlib.Core.Path.{_≡_}
 use mathlib.Core.Bool.{Bool}
 use mathlib.Core.List.{List}
@@ -81,9 +81,14 @@ ChecksAs (Block wide offset) l i = SomeActive l i (K wide i)
 abbrev pub Checks : Lent → Insn → Type 0
 Checks l i = ChecksAs (i .shape) l i
 
--- where element e lies, before it is taken modulo 2^64
+-- page 004's `offs` before read e of LD1R to LD4R: zeros, then "offs = offs + ebytes" after each read
+abbrev pub offs : Insn → ℕ → ℕ
+offs i zero = 0
+offs i (suc e) = offs i e + m i
+
+-- where element e lies, before it is taken modulo 2^64; of LD1R to LD4R at page 004's "address+offs"
 abbrev pub liesAs : Shape → Lent → List ℕ → Insn → ℕ → ℤ
-liesAs (Replicate q back) l x i e = pos (scalar x (i .base)) +ℤ pos (e * m i)
+liesAs (Replicate q back) l x i e = pos (scalar x (i .base)) +ℤ pos (offs i e)
 liesAs (ByElement imm6) l x i e = pos (scalar x (i .base)) +ℤ pos imm6 *ℤ pos (m i)
 liesAs (Contiguous (Imm v)) l x i e = pos (scalar x (i .base)) +ℤ (signed4 v *ℤ pos (N l i) +ℤ pos e) *ℤ pos (m i)
 liesAs (Contiguous (Reg r)) l x i e = pos (scalar x (i .base)) +ℤ (pos (scalar x r) +ℤ pos e) *ℤ pos (m i)
