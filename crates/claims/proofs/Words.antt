@@ -6,6 +6,7 @@ use Rattle.ground.specs.declared.Size.{Size}
 use Rattle.ground.specs.declared.Size.the-variants.{B64}
 use Rattle.words.proofs.Apart.{Among, FitsAt, apart, longer, rowAt}
 use Rattle.words.proofs.DtypeRule.{ruleOf}
+use Rattle.words.proofs.Grown.{firstTable}
 use Rattle.words.proofs.NotWanted.{NotWanted, notWantedLayout}
 use Rattle.words.specs.Dtypes.{DtypePromise, dtypeOf, dtypes, plainOf, unsignedRow}
 use Rattle.words.specs.Families.{FamilyRow, ReadPromise, families, readBy, readOf}
@@ -88,6 +89,14 @@ any-order = Rattle.words.proofs.Apart.any-order
 pub longer-takes : (apart longer ≡ true) × Among families longer × ((w : ℕ) → (readOf w ≡ Outside → ⊥) → readBy longer w ≡ readOf w)
     × (readBy longer 0x85C00000 ≡ Undefined) × (readOf 0x85C00000 ≡ Outside)
 longer-takes = Rattle.words.proofs.Apart.longer-takes
+
+-- LD2R to LD4R came in two rows that became wider: what document 01's own table does not leave outside is read as it has it,
+pub first-settled : (w : ℕ) → (readBy firstTable w ≡ Outside → ⊥) → readOf w ≡ readBy firstTable w
+first-settled = Rattle.words.proofs.Grown.first-settled
+
+-- and there are such words.
+pub first-takes : readBy firstTable 0x4D40D000 ≡ Undefined
+first-takes = Rattle.words.proofs.Grown.first-takes
 
 -- The parts of an instruction are where their names say,
 pub insn-parts : (d : Dtype) (g : Governing) (rn rt n : ℕ) (s : Shape) → let i = insnWith d g rn rt n s in (i .element ≡ d) × (i .governing ≡ g)

@@ -147,6 +147,18 @@ module _ (w : ℕ) where
       let r = m k (h .there) in
       (r .0, record { there = r .1; fitting = ap (λ (s : FamilyRow). fits w (s .bits)) (r .2) ∙ h .fitting }, r .2)
 
+  -- a row of one table that fits has a row of another that fits and says the same of the word
+  abbrev pub Says : List FamilyRow → List FamilyRow → Type 0
+  Says rows more = (k : ℕ) → FitsAt rows w k → (j : ℕ) × FitsAt more w j × (rowAt more j .means w ≡ rowAt rows k .means w)
+
+  -- so a word that was not outside by the one is the same by the other
+  pub still : (rows more : List FamilyRow) → apart more ≡ true → Says rows more → (readBy rows w ≡ Outside → ⊥) → readBy more w ≡ readBy rows w
+  still rows more a s inside =
+      ⊎-elim
+      (λ h. let r = s (h .0) (h .1) in place-reads more a (r .0) (r .1) ∙ r .2 ∙ sym (h .2))
+      (λ n. absurd (inside (n .1)))
+      (found rows)
+
 -- ---- The family table
 
 -- no word fits two rows of it
@@ -172,10 +184,7 @@ clashing-outside fs c w t =
 pub settled : (rows : List FamilyRow) → apart rows ≡ true → Among families rows → (w : ℕ) → (readOf w ≡ Outside → ⊥) → readBy rows w ≡ readOf w
 unfolding readOf
 settled rows a m w inside =
-    ⊎-elim
-    (λ h. let r = among w families rows m (h .0) (h .1) in place-reads w rows a (r .0) (r .1) ∙ ap (λ (s : FamilyRow). s .means w) (r .2) ∙ sym (h .2))
-    (λ n. absurd (inside (n .1)))
-    (found w families)
+    still w families rows a (λ k h. let r = among w families rows m k h in (r .0, r .1, ap (λ (s : FamilyRow). s .means w) (r .2))) inside
 
 -- .. and a row that is added takes only words that were outside.
 pub added : (rows : List FamilyRow) → apart rows ≡ true → Among families rows
