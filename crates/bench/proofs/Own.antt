@@ -1,20 +1,19 @@
 -- A register's own lanes, those that are filled from a stretch: what is told of them by the rule, and what `own_lanes` makes of them.
 use mathlib.Core.Path.{_≡_, refl, sym, ap, _∙_}
 use mathlib.Core.Bool.{Bool, true, false}
-use mathlib.Core.List.{List, [], _∷_, _++_}
+use mathlib.Core.List.{List, [], _∷_}
 use Prim.Native.Nat.{ℕ, _+_, _*_, _/_, _%_, _≤_, _<_}
-use native.Mathlib.Nat.{le-refl, zero-add, one-mul, mul-zero, zero-mul, mul-assoc, mul-pos, mul-le-mul-right, le-of-mul-le-mul-right}
-use native.Mathlib.Nat.{mod-le, mod-one, mod-mod, mod-eq-of-lt, mul-div-cancel}
+use native.Mathlib.Nat.{le-refl, zero-add, mul-zero, zero-mul, mul-assoc, mul-pos, mul-le-mul-right}
+use native.Mathlib.Nat.{mod-le, mod-mod, mod-eq-of-lt, mul-div-cancel}
 use native.Mathlib.Omega.{arith}
 use borrow.Author.Tests.{lt-ltb}
-use lib.Dec.{lit<, lit≤}
-use lib.ListN.{length, drop, length-append, length-drop, List·getD-append}
+use lib.Dec.{lit≤}
+use lib.ListN.{length}
 use Rattle.ground.specs.Choices.{if_then_else_}
-use Rattle.ground.specs.Lists.{listed, anyBelow}
+use Rattle.ground.specs.Lists.{anyBelow}
 use Rattle.ground.specs.Sizes.{bytesOf}
 use Rattle.ground.specs.declared.Size.{Size}
-use Rattle.ground.proofs.Fills.{Filled}
-use Rattle.ground.proofs.Laws.{never, all-at, getD-listed}
+use Rattle.ground.proofs.Laws.{never}
 use Rattle.ground.proofs.Sizes.{bytes-some, bytes-few, whole-lanes}
 use Rattle.memory.specs.declared.Reading.{Reading}
 use Rattle.steps.specs.Lanes.{bitOf, isActive, wanted, laneTakes, laneElement}
@@ -24,7 +23,6 @@ use Rattle.steps.specs.declared.Rule.{Rule}
 use Rattle.steps.specs.declared.Rule.the-variants.{Always, LaneBit, ElementBit}
 use Rattle.steps.proofs.Walks.{many}
 use Rattle.plans.specs.Inside.{ShapedAs, Shaped}
-use Rattle.plans.proofs.Shapes.{factor-some}
 use Rattle.bench.specs.Inside.Quick.{LanesIn, LanesOut, isAlways, ownOf, strideOf, countOf, ownIn, FillIn, OwnOut}
 use Rattle.bench.proofs.Small.{slot}
 use Rattle.bench.proofs.Many.{any-many}

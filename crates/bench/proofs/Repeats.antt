@@ -8,7 +8,6 @@ use native.Mathlib.Nat.{div-eq-of-lt, zero-add, div-add-mod', div-lt-iff-lt-mul,
 use native.Mathlib.Omega.{arith}
 use borrow.Author.Tests.{le-ltb, lt-ltb, ltb-true, ltb-false}
 use lib.Dec.{ltb, lit<}
-use lib.ListN.{length, getD}
 use lib.Pow.{pow-add, pow-pos}
 use Rattle.ground.specs.Lists.{bytesAt}
 use Rattle.ground.specs.Sizes.{bytesOf}

@@ -1,5 +1,5 @@
 -- A load that is ready, and whose active elements can all be read, leaves what the scope of work says.
-use mathlib.Core.Path.{_≡_, refl, sym, ap, subst, _∙_}
+use mathlib.Core.Path.{_≡_, refl, sym, ap, _∙_}
 use mathlib.Core.Bool.{Bool, true, false}
 use Prim.Native.Nat.{ℕ, _+_, _-_, _%_, _^_, _≤_, _<_}
 use native.Mathlib.Nat.{zero-add, zero-mod}
@@ -7,7 +7,7 @@ use native.Mathlib.Omega.{arith}
 use lib.ListN.{length, getD}
 use Rattle.ground.specs.Choices.{if_then_else_}
 use Rattle.ground.proofs.Laws.{off, little-cong, little-below}
-use Rattle.steps.specs.Insns.{Insn, Is}
+use Rattle.steps.specs.Insns.{Insn}
 use Rattle.words.specs.Ranges.{InsnInRange}
 use Rattle.words.proofs.Ranges.{means-in-range}
 use Rattle.memory.specs.Addresses.{wrap, plusOf}

@@ -2,7 +2,7 @@
 use Prim.Native.Nat.{ℕ, zero, suc}
 use native.Mathlib.Omega.{arith}
 use mathlib.Core.Path.{_≡_, refl, sym, ap, _∙_}
-use mathlib.Core.Bool.{true, _||_}
+use mathlib.Core.Bool.{_||_}
 use mathlib.Core.List.{List, [], _∷_}
 use lib.Dec.{eqb, lit<}
 use lib.ListN.{take, drop}
@@ -16,7 +16,7 @@ use Rattle.ground.proofs.Pieces.{halves}
 use Rattle.words.specs.Dtypes.{plainOf}
 use Rattle.words.specs.Families.{bitsAre, tests, fits, FamilyRow, _⇨_, replicateOf, families, readBy, readOf}
 use Rattle.words.specs.Insns.{insnWith, Replicate, None, Back, Keep, Post, Decoded, Outside, Undefined, Is}
-use Rattle.words.proofs.Apart.{rowAt, FitsAt, Says, families-apart, still}
+use Rattle.words.proofs.Apart.{rowAt, Says, families-apart, still}
 
 -- LD1R as document 01 has it: L=0 or S=1 is undefined, and else one register is loaded
 abbrev pub ld1rOf : Back → ℕ → Decoded

@@ -1,8 +1,7 @@
 -- Each test of the code is that its row fits, and a word that fits a row is what the row says, whatever the rows before it are. Where none
 -- fits, each test fails.
-use mathlib.Core.Path.{_≡_, ap, _∙_}
-use mathlib.Core.Bool.{false}
-use lib.Dec.{eqb, lit<}
+use mathlib.Core.Path.{ap, _∙_}
+use lib.Dec.{lit<}
 use borrow.Author.Tests.{ne-eqb}
 use Rattle.words.specs.Families.{scalarOf, families, readOf}
 use Rattle.words.proofs.Apart.{row-is}

@@ -1,6 +1,5 @@
 -- `from_stretch` meets its contract: LD1R to LD4R fill a destination for each element, every other load its one destination.
-use mathlib.Core.Path.{_≡_, refl, sym, _∙_}
-use mathlib.Core.Bool.{false}
+use mathlib.Core.Path.{sym, _∙_}
 use Prim.Native.Nat.{ℕ, _+_, _*_, _≤_}
 use native.Mathlib.Nat.{le-refl, le-trans, le-of-lt, le-add-right}
 use borrow.Author.Needs.{needs}
