@@ -41,12 +41,12 @@ module _ (w : ℕ) where
   unfolding families
   said zero h =
       let t = all-of (tests w (rowAt firstTable 0 .bits)) (h .fitting) in
-      let a = halves w 13 8 1 0b000000110 (eqb-true _ _ (t 2)) in
-      let b = halves w 14 1 7 0b00000011 (a .0) in
+      let a = halves w 13 8 1 _ (eqb-true _ _ (t 2)) in
+      let b = halves w 14 1 7 _ (a .0) in
       (0, record { there = lit< tt; fitting = rw (t 0, t 1, eq-eqb _ 0b0000011 (b .1)) }, one Keep (a .1) (b .0))
   said (suc zero) h =
       let t = all-of (tests w (rowAt firstTable 1 .bits)) (h .fitting) in
-      let a = halves w 13 2 1 0b110 (eqb-true _ _ (t 3)) in
+      let a = halves w 13 2 1 _ (eqb-true _ _ (t 3)) in
       (1, record { there = lit< tt; fitting = rw (t 0, t 1, eq-eqb _ 0b11 (a .0)) }, one (Post _) (a .1) (eqb-true _ _ (t 2)))
   said (suc (suc k)) h =
       let l = h .there in
