@@ -193,7 +193,8 @@ fn block_bytes(wide: bool) -> u64
     if wide { 32 } else { 16 }
 }
 
-// LD1RQ and, where it is wide, LD1RO: a block, repeated as often as it goes into the register; the immediate counts blocks.
+// LD1RQ and, where it is wide, LD1RO: a block, repeated as often as it goes into the register; the immediate counts blocks. The block's lanes
+// are read, and the stack rule consults every lane of the register.
 fn block(vl: u64, x: &[u64], insn: Insn, wide: bool, offset: Offset) -> Plan
     requires { ⌜ OffsetInRange offset ⌝ }
     requires { ⌜ vl ≤ 2048 ⌝ }
@@ -206,7 +207,17 @@ fn block(vl: u64, x: &[u64], insn: Insn, wide: bool, offset: Offset) -> Plan
     let k = bytes / lane.bytes();
     let filled = vl / (8 * bytes) * k;
     let first = start(x, insn.base, memory, bytes, offset);
-    plan_with(insn, first, k, filled, Rule::ElementBit, k, false, 0)
+    let consulted = lanes_in(vl, lane);
+    plan_with(
+        insn,
+        first,
+        k,
+        filled,
+        Rule::ElementBit,
+        consulted,
+        false,
+        0,
+    )
 }
 
 // The plan of an instruction.

@@ -46,8 +46,8 @@ starred =
     -- S=1, and L=0
     ∷ refuses 0x4D40D000 (plain (allOn 256)) 3
     ∷ refuses 0x4D00C000 (plain (allOn 256)) 3
-    -- SP = 8, only lane 2 active, which is no lane of the block: ran, Z0 zero, count 0
-    ∷ ran 0xA58023E0 (setUpWith (allOn 256) (only 256 0 (0 ∷ 0 ∷ 1 ∷ 0 ∷ [])) (page eight) empty (0 ≔ 4096 ∷ sp ≔ 8 ∷ [])) 0 0 (zeros 32) []
+    -- SP = 8, only lane 2 active, which is no lane of the block: "ran, Z0 zero, count 0" in document 01, and 5 as request Two amends it
+    ∷ refuses 0xA58023E0 (setUpWith (allOn 256) (only 256 0 (0 ∷ 0 ∷ 1 ∷ 0 ∷ [])) (page eight) empty (0 ≔ 4096 ∷ sp ≔ 8 ∷ [])) 5
     -- flash at 0 of 8,192 bytes, page 1 denied (every bit of its rights but bit 0 is set), X0 = 4,084, lanes 0 and 1 active
     ∷ faults 0xA5E0A000 (setUpWith (allOn 256) (only 256 0 (1 ∷ 1 ∷ 0 ∷ 0 ∷ [])) (zoneWith 0 (nines 8192) (1 ∷ 254 ∷ [])) empty (0 ≔ 4084 ∷ []))
     7 1 1 4096
@@ -96,8 +96,15 @@ ours =
     1 7 (copies 2 eight) (sp ≔ 4104 ∷ pc ≔ 0 ∷ [])
     -- LD1R {V0.16B}, [SP], SP = 4,104 in readable memory, no predicate bit set. Refused: SP a multiple of 8; LD1R checks SP by a predicate.
     ∷ refuses 0x4D40C3E0 (setUpWith (allOn 128) (noneActive 128) (page (rising 1 16)) empty (sp ≔ 4104 ∷ [])) 5
-    -- A58023E0 again, lane 1 active, which is the block's. Refused: no check of SP but for LD1R; a check that asks lane 0 alone.
+    -- A58023E0 again, lane 1 active, which is the block's. Refused: no check of SP but for LD1R; a check that asks lane 0 alone, or the copies.
     ∷ refuses 0xA58023E0 (setUpWith (allOn 256) (only 256 0 (0 ∷ 1 ∷ 0 ∷ 0 ∷ [])) (page (rising 1 32)) empty (sp ≔ 4104 ∷ [])) 5
+    -- .. and with every bit of P0 set but the lanes' first, SP = 8. Refused: any bit of the predicate counts; a block load always checks.
+    ∷ ran 0xA58023E0 (setUpWith (allOn 256) (only 256 0 (0xFE ∷ 0xFE ∷ 0xFE ∷ 0xFE ∷ [])) (page eight) empty (sp ≔ 8 ∷ [])) 0 0 (zeros 32) []
+    -- .. and lanes 2 and 3 active, SP = 16, where no memory is. Refused: a lane past the block is read, or is filled by its own bit.
+    ∷ ran 0xA58023E0 (setUpWith (allOn 256) (only 256 0 (0 ∷ 0 ∷ 1 ∷ 1 ∷ [])) (page eight) empty (sp ≔ 16 ∷ [])) 0 0 (zeros 32) []
+    -- LD1ROB {Z0.B}, P0/Z, [SP] at VL 384, SP = 8, lane 47 alone active: the last of the 16 that one block of 32 leaves over. Refused: a check
+    -- that asks whole blocks alone; one that asks lanes of 16 bits or more, whatever the lane size.
+    ∷ refuses 0xA42023E0 (setUpWith (allOn 384) (only 384 0 (0 ∷ 0 ∷ 0 ∷ 0 ∷ 0 ∷ 0x80 ∷ [])) (page (rising 1 32)) empty (sp ≔ 8 ∷ [])) 5
     -- LD1RQW {Z8.S}, P2/Z, [X3, #-16] at VL 384: lane 2 of the block is inactive; of its copies, lanes 6 and 10 have their bit set and lanes
     -- 4, 5, 7, 8, 9 and 11 have not. Refused: a copy's lane asks its own bit; an inactive lane keeps its value; the immediate counts
     -- elements or vectors.

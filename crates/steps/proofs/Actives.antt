@@ -114,12 +114,12 @@ module _ (l : Lent) (x : List ℕ) (allowed : LengthAllowed (l .settings .vl)) (
       (λ h. (h .0, s (each-own wide long e (h .0)) .0 (h .1)), λ h. (h .0, s (each-own wide long e (h .0)) .1 (h .1)))
 
   -- the SP check is made exactly when the scope says so
-  pub checks-exactly : (s : Shape) → (WideAs s → 256 ≤ l .settings .vl) → (checksStack (plan s) (governingBytes l (plan s)) ≡ true) ↔ ChecksAs s l i
+  pub checks-exactly : (s : Shape) → (checksStack (plan s) (governingBytes l (plan s)) ≡ true) ↔ ChecksAs s l i
   unfolding spreadOf checksStack
-  checks-exactly (Replicate q back) long = (λ h. tt, λ h. refl)
-  checks-exactly (ByElement imm6) long = some-active l (plan (ByElement imm6)) (N l i) each-lane
-  checks-exactly (Contiguous o) long = some-active l (plan (Contiguous o)) (N l i) each-lane
-  checks-exactly (Block wide o) long = some-active l (plan (Block wide o)) (K wide i) (each-own wide long)
+  checks-exactly (Replicate q back) = (λ h. tt, λ h. refl)
+  checks-exactly (ByElement imm6) = some-active l (plan (ByElement imm6)) (N l i) each-lane
+  checks-exactly (Contiguous o) = some-active l (plan (Contiguous o)) (N l i) each-lane
+  checks-exactly (Block wide o) = some-active l (plan (Block wide o)) (N l i) each-lane
 
   -- lane k of destination j takes element e of the plan exactly where the scope says
   pub takes-there : (s : Shape) → ShapeInRange i s → (WideAs s → 256 ≤ l .settings .vl) → (j k e : ℕ) → k < N l i → TakesAs s l i j k e

@@ -114,11 +114,11 @@ module _ (l : Lent) (w : ℕ) (b : Bench) where
       let long : Wide i → 256 ≤ l .settings .vl = λ q. ltb-false _ _ (and-other (isWide (i .shape)) _ v (wide-exactly (i .shape) .1 q)) in
       let d : Defined l w b i = record { accepted = a; reads = reads; f64mm = has; on = on; long = long } in
       if-cases (Way i) (stackFails (b .scalars) (plan i) (governingBytes l (plan i))) _ _
-      (λ f. let r = stack-exactly l b a i long .0 f in inr (_, S.stack i d (r .0) (r .1) (r .2), refl))
+      (λ f. let r = stack-exactly l b a i .0 f in inr (_, S.stack i d (r .0) (r .1) (r .2), refl))
       (λ f. inl (
         record {
           defined = d;
-          stack = λ h c. ⊎-elim (λ z. eqb-true _ 0 z) (λ z. never (stack-exactly l b a i long .1 (h, c, eqb-false _ 0 z)) f)
+          stack = λ h c. ⊎-elim (λ z. eqb-true _ 0 z) (λ z. never (stack-exactly l b a i .1 (h, c, eqb-false _ 0 z)) f)
               (true-or-false (eqb (scalar (b .scalars) 31 % 16) 0));
         },
         refl,
@@ -171,7 +171,7 @@ module _ (l : Lent) (w : ℕ) (b : Bench) where
   ready-plan i r =
       let d = r .defined in
       at-stack i d false (off (stackFails (b .scalars) (plan i) (governingBytes l (plan i)))
-      (λ t. let s = stack-exactly l b (d .accepted) i (d .long) .0 t in s .2 (r .stack (s .0) (s .1))))
+      (λ t. let s = stack-exactly l b (d .accepted) i .0 t in s .2 (r .stack (s .0) (s .1))))
 
   pub ready-goes : (i : Insn) (r : Ready l w b i) → stepOf l w b ≡ carriedOut l b (Go (plan i))
   ready-goes i r = evaluated (Is i) (r .defined .accepted) (means-read w (Is i) (r .defined .reads)) ∙ ap (carriedOut l b) (ready-plan i r)
@@ -210,7 +210,7 @@ module _ (l : Lent) (w : ℕ) (b : Bench) where
       loads i a e ∙ rw (f64mm-fine i (λ _. has), on-exactly l (i .shape) .1 on, wide-exactly (i .shape) .1 v, lt-ltb _ _ s)
   meant small r (S.stack i d h c z) =
       loads i (d .accepted) (d .reads)
-      ∙ ap (λ (p : Prepared). carriedOut l b p .report) (at-stack i d true (stack-exactly l b (d .accepted) i (d .long) .1 (h, c, z)))
+      ∙ ap (λ (p : Prepared). carriedOut l b p .report) (at-stack i d true (stack-exactly l b (d .accepted) i .1 (h, c, z)))
   meant small r (S.no-memory i e k ready f c) = stopped i ready Nowhere e k _ f c
   meant small r (S.denied i e k ready f c) = stopped i ready Denied e k _ f c
 

@@ -56,5 +56,5 @@ module _ (vl : ℕ) (x : List ℕ) (allowed : LengthAllowed vl) (i : Insn) (fine
       sound-with (spreadOf vl x i (Contiguous o)) (lane-some (i .element .lane) vl (allowed .least)) n n (h .1) n
   plan-in-range (Block wide o) h =
       let k = elements-few vl x i (Block wide o) (fine .few) (allowed .largest) in
-      let n = blocks-few vl (blockBytes wide) (bytesOf (i .element .lane)) (allowed .largest) in
-      sound-with (spreadOf vl x i (Block wide o)) (block-some wide (i .element .lane)) k n (h .1) k
+      let f = blocks-few vl (blockBytes wide) (bytesOf (i .element .lane)) (allowed .largest) in
+      sound-with (spreadOf vl x i (Block wide o)) (block-some wide (i .element .lane)) k f (h .1) (lanes-most (i .element .lane) vl (allowed .largest))

@@ -33,11 +33,11 @@ module _ (l : Lent) (b : Bench) where
   abbrev plan : Insn → Plan
   plan i = planOf (l .settings .vl) (b .scalars) i
 
-  pub stack-exactly : Accepted l b → (i : Insn) → (Wide i → 256 ≤ l .settings .vl)
+  pub stack-exactly : Accepted l b → (i : Insn)
       → (stackFails (b .scalars) (plan i) (governingBytes l (plan i)) ≡ true) ↔ ((i .base ≡ 31) × Checks l i × (scalar (b .scalars) 31 % 16 ≡ 0 → ⊥))
   unfolding stackFails
-  stack-exactly a i long =
-      let c = checks-exactly l (b .scalars) (a .allowed) i (i .shape) long in
+  stack-exactly a i =
+      let c = checks-exactly l (b .scalars) (a .allowed) i (i .shape) in
       let made = checksStack (plan i) (governingBytes l (plan i)) in (
         λ h.
             let f = and-left (eqb (i .base) 31 && made) _ h in

@@ -70,11 +70,11 @@ spreadOf vl x i (ByElement imm6) =
 spreadOf vl x i (Contiguous offset) =
     let n = lanesOf vl (i .element .lane) in
     spreadWith (startOf x (i .base) (i .element .memory) (n * bytesOf (i .element .memory)) offset) n n ElementBit n
--- LD1RQ and LD1RO consult the block's own lanes
+-- LD1RQ and LD1RO read the block's own lanes; for the stack rule "any lane at that lane size" counts, "anywhere in VL"
 spreadOf vl x i (Block wide offset) =
     let K = blockBytes wide / bytesOf (i .element .lane) in
     let copies = vl / (8 * blockBytes wide) in
-    spreadWith (startOf x (i .base) (i .element .memory) (blockBytes wide) offset) K (copies * K) ElementBit K
+    spreadWith (startOf x (i .base) (i .element .memory) (blockBytes wide) offset) K (copies * K) ElementBit (lanesOf vl (i .element .lane))
 
 -- a plan: what its instruction has, and what its shape decides
 abbrev pub planWith : Insn → Spread → Plan

@@ -71,12 +71,13 @@ ActiveAs (Block wide offset) l i e = (e < K wide i) × LaneActive l i e
 abbrev pub Active : Lent → Insn → ℕ → Type 0
 Active l i e = ActiveAs (i .shape) l i e
 
--- "LD1R always checks", and so do LD2R to LD4R. "The others check only when one of the lanes they consult is active": all N; LD1RQ and LD1RO "only the block's own"
+-- "LD1R always checks", and so do LD2R to LD4R. "The others check only when one of the lanes they consult is active": all N, and of LD1RQ and
+-- LD1RO too, by request Two: "if any lane at that lane size is active anywhere in VL". Memory is read for the block's lanes only (`ActiveAs`)
 abbrev pub ChecksAs : Shape → Lent → Insn → Type 0
 ChecksAs (Replicate q back) l i = Unit {0}
 ChecksAs (ByElement imm6) l i = SomeActive l i (N l i)
 ChecksAs (Contiguous offset) l i = SomeActive l i (N l i)
-ChecksAs (Block wide offset) l i = SomeActive l i (K wide i)
+ChecksAs (Block wide offset) l i = SomeActive l i (N l i)
 
 abbrev pub Checks : Lent → Insn → Type 0
 Checks l i = ChecksAs (i .shape) l i

@@ -21,5 +21,6 @@ block-spec =
     (λ c.
     let g = c .before .before .before .before in
     record { fits = omega (arith, blocks-few (g .args .vl) (c .before .block-bytes .result) (c .bytes .result) (g .pre .1)) })
-    (λ c κs. (c .before .before .before .before .pre .0, omega (arith, few c))) (λ c κs. tt)
-    (λ c. c .plan-with .ensures ∙ rw (c .before .start .ensures, c .before .before .bytes .ensures, c .before .before .before .block-bytes .ensures)))
+    (λ c κs. (c .before .before .before .before .pre .0, omega (arith, few c))) (λ c κs. tt) (λ c κs. tt)
+    (λ c. c .plan-with .ensures
+    ∙ rw (c .before .lanes-in .ensures, c .before .before .start .ensures, c .before .before .before .bytes .ensures, c .before .before .before .before .block-bytes .ensures)))
