@@ -1,11 +1,13 @@
--- Demand 1: any input, each answer exactly when document 01 says, and any answer but 0 changes nothing.
-use Prim.Native.Nat.{_<_, _^_, _≤_, ℕ}
-use Rattle.steps.specs.Answers.{Report, numberOf, reportOf}
+-- Demand 1: any input, each answer exactly when document 01 says, and any answer but 0 changes nothing; the stack rule by itself.
+use Prim.Native.Nat.{_%_, _*_, _<_, _^_, _≤_, ℕ}
+use Rattle.steps.specs.Answers.{Report, numberOf, reportOf, reportWith}
 use Rattle.steps.specs.Benches.{Bench, Lent}
-use Rattle.steps.specs.Demand1.{Counted, Given, Ready}
-use Rattle.steps.specs.Said.{Active}
+use Rattle.steps.specs.Demand1.{Counted, Defined, Given, Ready}
+use Rattle.steps.specs.Said.{Active, LaneActive, laneBytes}
 use Rattle.steps.specs.Step.{StepPromise, stepOf}
+use Rattle.steps.specs.Terms.{scalar}
 use Rattle.steps.specs.declared.StepResult.{StepResult}
+use Rattle.words.specs.declared.Governing.the-variants.{By, None}
 use Rattle.words.specs.declared.Insn.{Insn}
 use mathlib.Core.Logic.{_↔_}
 use mathlib.Core.Path.{_≡_}
@@ -36,3 +38,20 @@ demand-1-counted = Rattle.steps.proofs.Demand1.demand-1-counted
 -- A count is at most 256.
 pub demand-1-count : (l : Lent) (w : ℕ) (b : Bench) (r : StepResult) (l₁ : Lent) (b₁ : Bench) → StepPromise l w b r l₁ b₁ → r .count ≤ 256
 demand-1-count = Rattle.steps.proofs.Demand1.demand-1-count
+
+-- SP is the base and no multiple of 16, and a predicate governs: 5 if a lane is active anywhere in VL, one of the block or not; and if none is,
+-- the load runs, and reads nothing.
+pub stack-anywhere : (l : Lent) (w : ℕ) (b : Bench) (r : StepResult) (l₁ : Lent) (b₁ : Bench) (p : StepPromise l w b r l₁ b₁) (i : Insn)
+    (d : Defined l w b i) (sp : i .base ≡ 31) (odd : scalar (b .scalars) 31 % 16 ≡ 0 → ⊥) → (g : ℕ) → i .governing ≡ By g
+    → ((e : ℕ) → e * (8 * laneBytes i) < l .settings .vl → LaneActive l i e → reportOf r ≡ reportWith 5 0 0 0)
+    × (((e : ℕ) → e * (8 * laneBytes i) < l .settings .vl → LaneActive l i e → ⊥) → reportOf r ≡ reportWith 0 0 0 0)
+stack-anywhere = Rattle.steps.proofs.Stacks.stack-anywhere
+
+-- .. and no predicate governs, as of LD1R to LD4R: 5.
+pub stack-always : (l : Lent) (w : ℕ) (b : Bench) (r : StepResult) (l₁ : Lent) (b₁ : Bench) (p : StepPromise l w b r l₁ b₁) (i : Insn)
+    (d : Defined l w b i) (sp : i .base ≡ 31) (odd : scalar (b .scalars) 31 % 16 ≡ 0 → ⊥) → i .governing ≡ None → reportOf r ≡ reportWith 5 0 0 0
+stack-always = Rattle.steps.proofs.Stacks.stack-always
+
+-- A load that is past the stack rule reads through an SP that is a multiple of 16, if SP is its base and it reads at all.
+pub stack-read : (l : Lent) (w : ℕ) (b : Bench) (i : Insn) → Ready l w b i → i .base ≡ 31 → (e : ℕ) → Active l i e → scalar (b .scalars) 31 % 16 ≡ 0
+stack-read = Rattle.steps.proofs.Stacks.stack-read

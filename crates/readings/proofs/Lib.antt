@@ -6,3 +6,4 @@ pub mod Starred
 pub mod Pairs
 pub mod Witnesses
 pub mod Refusals
+pub mod Stacks

@@ -22,6 +22,7 @@ pub mod Numbers
 pub mod Terms
 pub mod Promise
 pub mod Demand1
+pub mod Stacks
 pub mod Demand2
 pub mod Demand3
 pub mod Needs

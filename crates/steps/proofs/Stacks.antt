@@ -1,0 +1,105 @@
+-- The stack rule by itself, of any outcome that meets the promise: "SP as base must be a multiple of 16. LD1R always checks", and so do LD2R to
+-- LD4R; the others, LD1RQ and LD1RO among them, "if any lane at that lane size is active anywhere in VL".
+use mathlib.Core.Path.{_≡_, refl, sym, subst}
+use mathlib.Core.Bool.{Bool, true, false}
+use mathlib.Core.Logic.{_↔_}
+use Prim.Native.Nat.{ℕ, zero, suc, _*_, _%_, _≤_, _<_}
+use native.Mathlib.Nat.{mul-left-comm, lt-of-mul-lt-mul-right}
+use native.Mathlib.Omega.{arith}
+use Rattle.ground.proofs.Sizes.{bytes-some, in-lanes, register-room, register-lanes}
+use Rattle.words.specs.Ranges.{Governed, ShapeInRange}
+use Rattle.words.proofs.Ranges.{means-in-range}
+use Rattle.steps.specs.Insns.{Insn, Shape, Replicate, ByElement, Contiguous, Block, Governing, None, By}
+use Rattle.steps.specs.Benches.{Lent, Bench}
+use Rattle.steps.specs.Answers.{reportWith, reportOf}
+use Rattle.steps.specs.Terms.{scalar}
+use Rattle.steps.specs.Step.{StepPromise}
+use Rattle.steps.specs.Said.{LengthAllowed, laneBytes, N, K, LaneActive, ActiveAs, Active, ChecksAs, Checks}
+use Rattle.steps.specs.Demand1 as S
+use Rattle.steps.specs.Demand1.{WideAs, Counted, Defined, Ready, elementLimit}
+use Rattle.steps.specs.declared.StepResult.{StepResult}
+use Rattle.steps.proofs.Actives.{block-bytes}
+use Rattle.steps.proofs.Demand1.{demand-1-promise}
+
+-- a predicate that governs is not none
+abbrev IsBy : Governing → Type 0
+IsBy None = ⊥
+IsBy (By g) = Unit {0}
+
+-- none of the numbers below n
+counted-none : (P : ℕ → Type 0) → ((e : ℕ) → P e → ⊥) → (n : ℕ) → Counted P n 0
+counted-none P h zero = S.start
+counted-none P h (suc n) = S.miss (h n) (counted-none P h n)
+
+module _ (l : Lent) (allowed : LengthAllowed (l .settings .vl)) (i : Insn) where
+  -- the lanes of the register are those that start before bit VL
+  in-register : (e : ℕ) → (e < N l i) ↔ (e * (8 * laneBytes i) < l .settings .vl)
+  in-register e = (
+    λ h. rw (mul-left-comm e 8 (laneBytes i)) (omega (arith, register-room (l .settings .vl) (laneBytes i) e h, bytes-some (i .element .lane), allowed .multiple)),
+    λ h.
+        let q = rw (mul-left-comm e 8 (laneBytes i)) at h in
+        lt-of-mul-lt-mul-right (laneBytes i) (rw (register-lanes (i .element .lane) (l .settings .vl) (allowed .multiple)) (omega (arith, q, allowed .multiple))),
+  )
+
+  -- a lane of the block is one of the register's
+  own-in-register : (wide : Bool) → (wide ≡ true → 256 ≤ l .settings .vl) → (e : ℕ) → e < K wide i → e < N l i
+  own-in-register wide long e h = in-register e .1 (rw (mul-left-comm e 8 (laneBytes i)) (go wide long h))
+    where
+      go : (wide : Bool) → (wide ≡ true → 256 ≤ l .settings .vl) → e < K wide i → 8 * (e * laneBytes i) < l .settings .vl
+      go false long h = omega (arith, in-lanes (i .element .lane) _ (block-bytes false .0) e .0 h, allowed .least)
+      go true long h = omega (arith, in-lanes (i .element .lane) _ (block-bytes true .0) e .0 h, long refl)
+
+  -- a load that reads an element checks
+  active-checks : (s : Shape) → (WideAs s → 256 ≤ l .settings .vl) → (e : ℕ) → ActiveAs s l i e → ChecksAs s l i
+  active-checks (Replicate q back) long e h = tt
+  active-checks (ByElement imm6) long e h = h .1
+  active-checks (Contiguous o) long e h = (e, h .0, h .1)
+  active-checks (Block wide o) long e h = (e, own-in-register wide long e (h .0), h .1)
+
+  abbrev Anywhere : Type 0
+  Anywhere = (e : ℕ) × (e * (8 * laneBytes i) < l .settings .vl) × LaneActive l i e
+
+  -- one that a predicate governs checks exactly if a lane is active anywhere
+  some-anywhere : ((e : ℕ) × (e < N l i) × LaneActive l i e) ↔ Anywhere
+  some-anywhere = (λ c. (c .0, in-register (c .0) .0 (c .1), c .2), λ c. (c .0, in-register (c .0) .1 (c .1), c .2))
+
+  checks-anywhere : (s : Shape) → ShapeInRange i s → IsBy (i .governing) → ChecksAs s l i ↔ Anywhere
+  checks-anywhere (Replicate q back) fine by = absurd (subst IsBy (fine .3) by)
+  checks-anywhere (ByElement imm6) fine by = some-anywhere
+  checks-anywhere (Contiguous o) fine by = some-anywhere
+  checks-anywhere (Block wide o) fine by = some-anywhere
+
+  -- .. and one that none governs always
+  checks-always : (s : Shape) → ShapeInRange i s → i .governing ≡ None → ChecksAs s l i
+  checks-always (Replicate q back) fine none = tt
+  checks-always (ByElement imm6) fine none = absurd (subst Governed none (fine .1))
+  checks-always (Contiguous o) fine none = absurd (subst Governed none (fine .1))
+  checks-always (Block wide o) fine none = absurd (subst Governed none (fine .1))
+
+-- A load that is past the stack rule reads through an SP that is a multiple of 16, if SP is its base and it reads at all.
+pub stack-read : (l : Lent) (w : ℕ) (b : Bench) (i : Insn) → Ready l w b i → i .base ≡ 31 → (e : ℕ) → Active l i e → scalar (b .scalars) 31 % 16 ≡ 0
+stack-read l w b i r sp e h = let d = r .defined in r .stack sp (active-checks l (d .accepted .allowed) i (i .shape) (d .long) e h)
+
+module _ (l : Lent) (w : ℕ) (b : Bench) (r : StepResult) (l₁ : Lent) (b₁ : Bench) (p : StepPromise l w b r l₁ b₁) (i : Insn) (d : Defined l w b i)
+    (sp : i .base ≡ 31) (odd : scalar (b .scalars) 31 % 16 ≡ 0 → ⊥) where
+  stack-fails : Checks l i → reportOf r ≡ reportWith 5 0 0 0
+  stack-fails c = demand-1-promise l w b r l₁ b₁ p .0 _ .0 (S.stack i d sp c odd)
+
+  none-reads : (Checks l i → ⊥) → reportOf r ≡ reportWith 0 0 0 0
+  none-reads none =
+      let unread : (e : ℕ) → Active l i e → ⊥ = λ e h. none (active-checks l (d .accepted .allowed) i (i .shape) (d .long) e h) in
+      demand-1-promise l w b r l₁ b₁ p .0 _ .0
+      (S.ran i (record { defined = d; stack = λ _ c. absurd (none c) }) (λ e h. absurd (unread e h)) (counted-none (Active l i) unread elementLimit))
+
+  -- SP is the base and no multiple of 16, and a predicate governs: 5 if a lane is active anywhere in VL, one of the block or not; and if none is,
+  -- the load runs, and reads nothing.
+  pub stack-anywhere : (g : ℕ) → i .governing ≡ By g
+      → ((e : ℕ) → e * (8 * laneBytes i) < l .settings .vl → LaneActive l i e → reportOf r ≡ reportWith 5 0 0 0)
+      × (((e : ℕ) → e * (8 * laneBytes i) < l .settings .vl → LaneActive l i e → ⊥) → reportOf r ≡ reportWith 0 0 0 0)
+  stack-anywhere g by =
+      let c = checks-anywhere l (d .accepted .allowed) i (i .shape) (means-in-range w i (d .reads) .shape) (subst IsBy (sym by) tt) in
+      (λ e h a. stack-fails (c .1 (e, h, a)), λ none. none-reads (λ k. let a = c .0 k in none (a .0) (a .1) (a .2)))
+
+  -- .. and no predicate governs, as of LD1R to LD4R: 5.
+  pub stack-always : i .governing ≡ None → reportOf r ≡ reportWith 5 0 0 0
+  stack-always none = stack-fails (checks-always l (d .accepted .allowed) i (i .shape) (means-in-range w i (d .reads) .shape) none)
