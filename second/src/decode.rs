@@ -144,8 +144,9 @@ pub struct Load {
 }
 
 impl Load {
-    /// How many lanes a load consults at this VL: the block's own lanes for LD1RQ and LD1RO, else all.
-    /// LD1R to LD4R have an element for each register in place of lanes.
+    /// How many lanes a load asks for at this VL: the block's own lanes for LD1RQ and LD1RO, else all. The
+    /// stack rule goes by all lanes of VL, whatever the block. LD1R to LD4R have an element for each register
+    /// in place of lanes.
     pub fn lanes(&self, vl: u64) -> u64 {
         if self.family.is_ldnr() {
             self.selem
@@ -154,7 +155,7 @@ impl Load {
         }
     }
 
-    /// How many elements a load can ask for at this VL: one for each lane that it consults, save that
+    /// How many elements a load can ask for at this VL: one for each lane that it asks for, save that
     /// LD1R by element makes a single read for all of them.
     pub fn elements(&self, vl: u64) -> u64 {
         if self.family == Family::Ld1rElement {

@@ -89,8 +89,14 @@ fn predicate_in_words(load: &Load, bench: &Bench) -> String {
         active.join(" ")
     };
     let hex: String = mask.0.iter().map(|byte| format!("{byte:02x}")).collect();
+    // Which lanes are loaded and which the stack rule asks are two things
+    let stack = if load.n == SP {
+        format!(", SP checked if any of {lanes} is active")
+    } else {
+        String::new()
+    };
     format!(
-        "  p{} at {}-bit lanes, {} of {lanes} consulted: active {active}\n  \
+        "  p{} at {}-bit lanes, {} of {lanes} loaded{stack}: active {active}\n  \
          p{} bytes, lowest first: {hex}\n",
         load.g,
         load.esize,

@@ -157,8 +157,8 @@ fn ld1r_element<R: Rules + ?Sized>(machine: &mut Machine<R>, load: &Load) -> Res
     let mut result = Vector::zeros(vl);
     let mut data = 0;
     let mbytes = msize / 8;
-    let any_active = machine.any_active(mask, elements, esize);
-    machine.check_sp_if(n, any_active)?;
+    let any_active = machine.any_active_element(mask, esize);
+    machine.check_sp_if(load, mask, any_active)?;
     if any_active {
         let base = machine.x(n);
         let scale = machine.rules.element_scale(mbytes, load.esize / 8);
@@ -217,7 +217,7 @@ fn contiguous<R: Rules + ?Sized>(
     let mask = machine.p(g);
     let mut result = Vector::zeros(vl);
     let mbytes = msize / 8;
-    machine.check_sp_if(n, machine.any_active(mask, elements, esize))?;
+    machine.check_sp_if(load, mask, machine.any_active_element(mask, esize))?;
     let base = machine.x(n);
     for e in 0..elements {
         if machine.active(mask, e, esize) {
@@ -286,7 +286,9 @@ fn check_octaword_vl<R: Rules + ?Sized>(machine: &Machine<R>) -> Result<(), Stop
 }
 
 /// What pages 001 and 002 have in common: from `elements = size DIV esize` to the end of the loop
-/// over the block's own lanes. `offset` is the block's distance from the base in bytes.
+/// over the block's own lanes. `offset` is the block's distance from the base in bytes. The stack rule
+/// goes by the operation text, as request Two of document 02 has it: `mask` is all of `P[g, PL]`, and
+/// `AnyActiveElement(mask, esize)` asks every lane of it, while the loop reads for the block's lanes only.
 fn block<R: Rules + ?Sized>(
     machine: &mut Machine<R>,
     load: &Load,
@@ -294,14 +296,12 @@ fn block<R: Rules + ?Sized>(
     offset: i128,
 ) -> Result<Vector, Stop> {
     let Load { n, g, esize, .. } = *load;
-    let elements = size / esize;
+    let all_lanes = machine.current_vl() / esize;
+    let elements = machine.rules.block_lanes_read(size / esize, all_lanes);
     let mask = machine.p(g);
     let mut result = Vector::zeros(size);
     let mbytes = esize / 8;
-    // "for LD1RQ and LD1RO this follows the prose of 001 and 002": higher elements are ignored
-    let all_lanes = machine.current_vl() / esize;
-    let consulted = machine.rules.block_lanes_consulted(elements, all_lanes);
-    machine.check_sp_if(n, machine.any_active(mask, consulted, esize))?;
+    machine.check_sp_if(load, mask, machine.any_active_element(mask, esize))?;
     let base = machine.x(n);
     for e in 0..elements {
         if machine.active(mask, e, esize) {

@@ -1,6 +1,7 @@
 //! The lent bench ("The lent bench" in document 01), its acceptance, and the helpers that the
 //! pages' operation texts call: `CheckSVEEnabled`, `CheckSPAlignment`, `P[g, PL]`, `Mem[...]`.
 
+use crate::decode::Load;
 use crate::rules::Rules;
 
 /// A page of the bench: one rights byte governs it.
@@ -214,6 +215,11 @@ pub fn accepted<R: Rules + ?Sized>(rules: &R, bench: &Bench) -> bool {
 pub struct Mask<'a>(pub &'a [u8]);
 
 impl Mask<'_> {
+    /// `PL`: how many bits it has.
+    pub fn bits(self) -> u64 {
+        8 * self.0.len() as u64
+    }
+
     pub fn bit(self, number: u64) -> bool {
         let byte = self.0.get((number / 8) as usize).copied().unwrap_or(0);
         (byte >> (number % 8)) & 1 == 1
@@ -312,8 +318,9 @@ impl<'a, R: Rules + ?Sized> Machine<'a, R> {
     /// The lines that every SVE page has before its loop:
     /// `if !AnyActiveElement(mask, esize) then if n == 31 && ConstrainUnpredictableBool(...) then
     /// CheckSPAlignment(); else if n == 31 then CheckSPAlignment();`
-    pub fn check_sp_if(&self, n: usize, any_active: bool) -> Result<(), Stop> {
-        if n == SP && (any_active || self.rules.check_sp_none_active()) {
+    pub fn check_sp_if(&self, load: &Load, mask: Mask, any_active: bool) -> Result<(), Stop> {
+        let asked = self.rules.stack_asks(load, mask, any_active);
+        if load.n == SP && (asked || self.rules.check_sp_none_active(load)) {
             self.check_sp_alignment()?;
         }
         Ok(())
@@ -324,8 +331,9 @@ impl<'a, R: Rules + ?Sized> Machine<'a, R> {
         self.rules.active(mask, e, esize)
     }
 
-    /// `AnyActiveElement(mask, esize)` over the lanes that the load consults.
-    pub fn any_active(&self, mask: Mask, elements: u64, esize: u64) -> bool {
+    /// `AnyActiveElement(mask, esize)`, which goes through `VL DIV esize` elements whatever the page loads.
+    pub fn any_active_element(&self, mask: Mask, esize: u64) -> bool {
+        let elements = self.current_vl() / esize;
         (0..elements).any(|e| self.active(mask, e, esize))
     }
 

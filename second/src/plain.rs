@@ -257,11 +257,12 @@ fn row<const M: usize, const L: usize, const S: bool>(
     let mask = &bench.p[load.g * result.len() / 8..][..result.len() / 8];
     let (own, copies) = result.split_at_mut(load.part);
     let lanes = own.len() / L;
-    if !(0..lanes).any(|e| active(mask, e * L)) {
-        return Ok(0);
-    }
-    if load.n == SP && base % 16 != 0 {
+    // Any lane makes the check, those past a block too; a block is read for its own
+    if load.n == SP && base % 16 != 0 && any_active::<L>(mask) {
         return Err(report(Answer::Stack, 0));
+    }
+    if !any_active::<L>(&mask[..own.len() / 8]) {
+        return Ok(0);
     }
     let elements = match load.form {
         Form::Scalar => bench.x[load.m],
@@ -287,6 +288,12 @@ fn row<const M: usize, const L: usize, const S: bool>(
 
 fn active(mask: &[u8], bit: usize) -> bool {
     mask[bit / 8] >> (bit % 8) & 1 == 1
+}
+
+/// Whether any lane of L bytes is active: FF, 55, 11 or 01 has the first bit of each in a byte of the mask.
+fn any_active<const L: usize>(mask: &[u8]) -> bool {
+    mask.iter()
+        .any(|byte| byte & (0xFF / ((1 << L) - 1) as u8) != 0)
 }
 
 /// Lane by lane from consecutive elements; a bad byte ends it with the reads made so far.

@@ -1,5 +1,5 @@
-//! The small decisions of document 01 and of request One, one method each. The methods as they stand are the right
-//! ones; a deliberately wrong variant overrides one of them (`wrong/`).
+//! The small decisions of document 01 and of requests One and Two, one method each. The methods as they stand are
+//! the right ones; a deliberately wrong variant overrides one of them (`wrong/`).
 
 use crate::decode::Load;
 use crate::machine::{Area, Mask, PAGE};
@@ -137,12 +137,19 @@ pub trait Rules: Sync {
 
     /// `ConstrainUnpredictableBool(Unpredictable_CHECKSPNONEACTIVE)`: "The others check only when
     /// one of the lanes they consult is active".
-    fn check_sp_none_active(&self) -> bool {
+    fn check_sp_none_active(&self, _load: &Load) -> bool {
         false
     }
 
-    /// "Only the block's own lanes are consulted", for the stack rule too.
-    fn block_lanes_consulted(&self, block_lanes: u64, _all_lanes: u64) -> u64 {
+    /// Whether an SVE load checks SP as base, given `AnyActiveElement(mask, esize)`, which speaks of all lanes.
+    /// Request Two of document 02: "LD1RQ and LD1RO with SP as base check it if any lane at that lane size
+    /// is active anywhere in VL", so one of a later copy too, or of what is left over behind the copies.
+    fn stack_asks(&self, _load: &Load, _mask: Mask, any_active: bool) -> bool {
+        any_active
+    }
+
+    /// "Memory is still read for the block's lanes only" (request Two of document 02).
+    fn block_lanes_read(&self, block_lanes: u64, _all_lanes: u64) -> u64 {
         block_lanes
     }
 
@@ -212,7 +219,7 @@ pub trait Rules: Sync {
     }
 }
 
-/// The rules as document 01 has them.
+/// The rules as document 01 has them, with requests One and Two of document 02.
 pub struct Right;
 
 impl Rules for Right {}

@@ -128,14 +128,19 @@ fn words_outside_the_families() {
     }
 }
 
+/// As request Two of document 02 amends it: "the reading A58023E0, which now answers 5".
 #[test]
-fn ld1rqd_with_a_lane_active_beyond_its_block_reads_and_checks_nothing() {
+fn ld1rqd_with_a_lane_active_beyond_its_block_checks_sp_and_reads_nothing() {
     let mut bench = bench(256);
     bench.x[SP] = 8;
     p0(&mut bench, &[16]);
-    assert_eq!(ran(0xA580_23E0, &bench), (vec![0; 32], 0));
+    assert_plain(5, 0xA580_23E0, &bench);
     p0(&mut bench, &[8]);
     assert_plain(5, 0xA580_23E0, &bench);
+    // At an SP that is a multiple of 16, in no area, memory is read for the block's lanes only
+    bench.x[SP] = 16;
+    p0(&mut bench, &[16]);
+    assert_eq!(ran(0xA580_23E0, &bench), (vec![0; 32], 0));
 }
 
 /// Flash at 0 of 8,192 bytes with page 1 denied, X0 = 4,084.

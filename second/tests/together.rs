@@ -141,6 +141,9 @@ fn only_a_load_that_comes_to_read_lies_together() {
         stack.x[SP] += 8;
         assert!(!together(word, &refused) && !together(word, &off));
         assert!(!together(word | 31 << 5, &stack));
+        // A lane past every block is enough
+        p0(&mut stack, &[48]);
+        assert!(!together(word | 31 << 5, &stack));
         // Without an active lane SP is checked by LD1R alone
         p0(&mut stack, &[]);
         let ld1r = Family::of(word).is_some_and(Family::is_ldnr);

@@ -140,13 +140,8 @@ bent! {
         load.family != Family::LdnrPostIndex
     }
 
-    WholePredicate:
-    fn block_lanes_consulted(&self, _: u64, all_lanes: u64) -> u64 {
-        all_lanes
-    }
-
     SpNoneActive:
-    fn check_sp_none_active(&self) -> bool {
+    fn check_sp_none_active(&self, _: &Load) -> bool {
         true
     }
 

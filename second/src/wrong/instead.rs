@@ -6,7 +6,7 @@ use crate::generate::distance;
 use crate::machine::{Answer, PC, SCALARS, SP};
 use crate::rules::{Right, Rules};
 
-const RAN: u8 = Answer::Ran as u8;
+pub const RAN: u8 = Answer::Ran as u8;
 const UNDEFINED: u8 = Answer::Undefined as u8;
 const SWITCHED_OFF: u8 = Answer::SwitchedOff as u8;
 pub const STACK: u8 = Answer::Stack as u8;

@@ -1,14 +1,16 @@
 //! Deliberately wrong interpreters. A set of cases is worth something if it tells each of them
 //! from the right one. A variant bends one small rule (`bent.rs`), or does something of its own
 //! with the right interpreter's help (`instead.rs`), for example with the copies of a block
-//! (`copies.rs`), with the registers of LD2R to LD4R (`structures.rs`), with the rights of pages
-//! (`pages.rs`) or where all elements lie together (`stretch.rs`). `windows.rs` has the wrong windows.
+//! (`copies.rs`), with the stack rule of block loads (`stack.rs`), with the registers of LD2R to LD4R
+//! (`structures.rs`), with the rights of pages (`pages.rs`) or where all elements lie together
+//! (`stretch.rs`). `windows.rs` has the wrong windows.
 
 #[macro_use]
 mod bent;
 mod copies;
 mod instead;
 mod pages;
+mod stack;
 mod stretch;
 mod structures;
 mod windows;
@@ -116,16 +118,93 @@ pub const VARIANTS: &[Variant] = &[
     bent("SP a multiple of 8 is enough", &bent::SpEight),
     bent("post-index LD1R without the SP check", &bent::PostNoSp),
     bent(
-        "block loads check SP over the whole predicate",
-        &bent::WholePredicate,
-    ),
-    bent(
         "SVE loads check SP with no active lane",
         &bent::SpNoneActive,
     ),
     instead("the stack told after the memory", instead::stack_last),
     instead("Rn = 31 read as zero", instead::rn31_zero),
     instead("Rn = 31 read as X30", instead::rn31_x30),
+    // The stack rule of block loads, and lanes past the block
+    bent(
+        "block loads check SP for the block's lanes alone",
+        &stack::BlockLanesOnly,
+    ),
+    bent(
+        "LD1RQ checks SP for the block's lanes alone",
+        &stack::Ld1rqAsBefore,
+    ),
+    bent(
+        "LD1RO checks SP for the block's lanes alone",
+        &stack::Ld1roAsBefore,
+    ),
+    bent(
+        "scalar block loads check SP for the block's lanes alone",
+        &stack::ScalarAsBefore,
+    ),
+    bent(
+        "immediate block loads check SP for the block's lanes alone",
+        &stack::ImmediateAsBefore,
+    ),
+    bent(
+        "block loads check SP for whole copies alone",
+        &stack::WholeCopiesOnly,
+    ),
+    bent(
+        "block loads check SP for lanes past the block alone",
+        &stack::PastBlockOnly,
+    ),
+    bent(
+        "block loads check SP for 16 predicate bits alone",
+        &stack::First16Bits,
+    ),
+    bent(
+        "block loads check SP for 32 predicate bits alone",
+        &stack::First32Bits,
+    ),
+    bent(
+        "block loads check SP for all lanes but the last",
+        &stack::AllButLast,
+    ),
+    bent(
+        "block loads check SP at lanes of 64 bits",
+        &stack::LanesOf64,
+    ),
+    bent(
+        "block loads check SP at lanes of a byte, so for any bit",
+        &stack::LanesOfBytes,
+    ),
+    bent(
+        "block loads check SP for any bit past the block",
+        &stack::AnyBitPastBlock,
+    ),
+    instead(
+        "block loads check SP for bits of the next predicate",
+        stack::next_predicate_too,
+    ),
+    bent("block loads always check SP", &stack::Always),
+    bent("block loads never check SP", &stack::Never),
+    instead("block loads check any base", stack::any_base),
+    bent("LD1 checks SP for any bit", &stack::Ld1AnyBit),
+    bent(
+        "LD1R by element checks SP for any bit",
+        &stack::ElementAnyBit,
+    ),
+    bent(
+        "a block load reads for all lanes of VL",
+        &stack::ReadsEveryLane,
+    ),
+    instead(
+        "a block load judges memory for all lanes of VL",
+        stack::judges_every_lane,
+    ),
+    instead(
+        "a block load counts all lanes of VL",
+        stack::counts_every_lane,
+    ),
+    instead(
+        "lanes past a block make its first element looked at",
+        stack::looks_at_first_element,
+    ),
     // Addresses
     bent("LD1 immediate scaled by register bytes", &bent::ByRegister),
     bent(
@@ -217,6 +296,10 @@ pub const VARIANTS: &[Variant] = &[
     instead(
         "copies of a block ask their own predicate bit",
         copies::copies_ask,
+    ),
+    instead(
+        "copies of a block are filled by their own predicate bit",
+        stack::filled_by_own_bit,
     ),
     instead(
         "a block asks the predicate bits of its second copy",
@@ -421,6 +504,10 @@ pub const VARIANTS: &[Variant] = &[
     instead(
         "together: the stack is not asked",
         stretch::stack_not_asked_together,
+    ),
+    instead(
+        "together: the stack asks the block's lanes alone",
+        stretch::block_lanes_only_together,
     ),
     instead(
         "together: base not written back",

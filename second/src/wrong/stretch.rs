@@ -240,7 +240,23 @@ pub fn base_stays_together(case: &Case) -> Outcome {
 
 /// A load from the stack runs, SP aligned or not, where all that it can ask for is readable.
 pub fn stack_not_asked_together(case: &Case) -> Outcome {
+    no_stack_rule_together(case, case.outcome())
+}
+
+/// A block load runs from the stack where no lane of the block is active and all of it is readable.
+pub fn block_lanes_only_together(case: &Case) -> Outcome {
     let outcome = case.outcome();
+    let load = decode(&Right, case.word, case.bench.f64mm);
+    let Some(load) = load.ok().filter(|load| load.family.block().is_some()) else {
+        return outcome;
+    };
+    if (0..load.lanes(case.bench.vl)).any(|e| active(case, &load, e)) {
+        return outcome;
+    }
+    no_stack_rule_together(case, outcome)
+}
+
+fn no_stack_rule_together(case: &Case, outcome: Outcome) -> Outcome {
     if outcome.report.answer != STACK {
         return outcome;
     }
