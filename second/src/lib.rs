@@ -26,6 +26,7 @@ pub mod rng;
 pub mod rules;
 pub mod sample;
 pub mod sharp;
+pub mod stack;
 pub mod tally;
 pub mod telling;
 pub mod together;

@@ -34,9 +34,10 @@ second: a second interpreter of Arm vector loads, written apart
       answers a stream of cases, as replay does; --plain: by the step of plain shape
   second agree --seed S --count N
       compares the two shapes of the step over N generated cases; shows how many of which family gave
-      which answer, and how many have all their elements together
+      which answer, and how many have all their elements together; and what block loads from the
+      stack have active
   second compare [--kinds] --seed S --count N [--replay PROGRAM]
-      compares N generated cases with PROGRAM (default ./replay); shows the same table; --kinds:
+      compares N generated cases with PROGRAM (default ./replay); shows the same tables; --kinds:
       questions for the two windows instead, by their answers
   second broken [--seed S] [--replay PROGRAM] [--pieces]
       sends broken streams through PROGRAM: what was answered stands, and one line says which case

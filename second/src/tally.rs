@@ -5,15 +5,18 @@ use crate::decode::{registers, Family};
 use crate::machine::Answer;
 use crate::questions::Kind;
 use crate::rules::Right;
+use crate::stack::{Active, FromStack, BLOCKS};
 use crate::telling::{LANES, PLACES};
 use crate::together::lies_together;
 
 /// How many cases of each family (and of none) gave which answer, and how many lay together; and the
-/// same for LD1R, LD2R, LD3R and LD4R, which two of the families are made of.
+/// same for LD1R, LD2R, LD3R and LD4R, which two of the families are made of. Then what block loads from
+/// the stack had active.
 #[derive(Default)]
 pub struct Tally {
     families: [Row; Family::ALL.len() + 1],
     registers: [Row; 4],
+    stack: StackTally,
 }
 
 #[derive(Clone, Copy, Default)]
@@ -50,10 +53,11 @@ impl Tally {
             let more = registers(&Right, case.word) - 1;
             self.registers[more as usize].add(answer, together);
         }
+        self.stack.add(case, answer);
     }
 
     /// A table by family and answer, and how many cases lay together: by family in the last column, of
-    /// all in the line below. Then LD1R to LD4R, each in a line of its own.
+    /// all in the line below. Then LD1R to LD4R, each in a line of its own, and block loads from the stack.
     pub fn in_words(&self) -> String {
         let mut text = format!("{:<20}", "answer");
         let answers = Answer::ALL.map(|answer| Answer::name(answer.number()));
@@ -73,12 +77,75 @@ impl Tally {
         for (registers, row) in (1..).zip(&self.registers) {
             text += &row.in_words(&format!("LD{registers}R"));
         }
-        text + "\n"
+        text + "\n" + &self.stack.in_words()
     }
 
     /// How many cases lay together.
     pub fn together(&self) -> u64 {
         self.families.iter().map(|row| row.together).sum()
+    }
+}
+
+/// How many block loads with SP as base came to the stack rule with which lanes active.
+#[derive(Default)]
+struct StackTally {
+    cells: [[StackCell; BLOCKS.len()]; Active::ALL.len()],
+}
+
+#[derive(Clone, Copy, Default)]
+struct StackCell {
+    cases: u64,
+    stack: u64,
+    ran: u64,
+    /// Those that ran with an SP that is no multiple of 16.
+    askew: u64,
+}
+
+impl StackTally {
+    fn add(&mut self, case: &Case, answer: u8) {
+        let Some(from_stack) = FromStack::of(case, answer) else {
+            return;
+        };
+        for (family, cell) in (BLOCKS.into_iter()).zip(&mut self.cells[from_stack.active as usize])
+        {
+            if family == from_stack.family {
+                let ran = answer == Answer::Ran.number();
+                cell.cases += 1;
+                cell.stack += u64::from(answer == Answer::Stack.number());
+                cell.ran += u64::from(ran);
+                cell.askew += u64::from(ran && from_stack.askew);
+            }
+        }
+    }
+
+    /// A line for each thing that can be active, with four numbers for each family; `-` where none can be.
+    fn in_words(&self) -> String {
+        let mut text = format!("{:<20}", "SP as base, active");
+        for family in BLOCKS {
+            text += &format!(" {:>29}", family.name());
+        }
+        text += &format!("\n{:20}", "");
+        for _ in BLOCKS {
+            text += &format!(" {:>8} {:>6} {:>6} {:>6}", "cases", "stack", "ran", "askew");
+        }
+        for (active, cells) in Active::ALL.into_iter().zip(&self.cells) {
+            text += &format!("\n{:<20}", active.name());
+            for (family, cell) in BLOCKS.into_iter().zip(cells) {
+                text += &cell.in_words(active.can_be(family, 64));
+            }
+        }
+        text + "\n"
+    }
+}
+
+impl StackCell {
+    fn in_words(self, can_be: bool) -> String {
+        let number = |number: u64| match can_be {
+            true => number.to_string(),
+            false => "-".to_string(),
+        };
+        let [cases, stack, ran, askew] = [self.cases, self.stack, self.ran, self.askew].map(number);
+        format!(" {cases:>8} {stack:>6} {ran:>6} {askew:>6}")
     }
 }
 

@@ -130,6 +130,37 @@ fn table_of_answers(output: &str, cases: u64) {
     let percent = 100 * together / cases;
     assert!(lines[11].starts_with(&format!("{together} of {cases} cases, {percent}.")));
     assert!(lines[11].ends_with(" %, lie together"));
+    table_of_the_stack(&lines[16..23]);
+}
+
+/// The table of block loads from the stack: a lane makes the check, and what is no lane does not.
+fn table_of_the_stack(lines: &[&str]) {
+    assert!(lines[0].starts_with("SP as base, active") && lines[0].ends_with(" LD1RO scalar"));
+    let names = [
+        "in the block",
+        "in a later copy",
+        "in what is left over",
+        "no lane, other bits",
+        "no bit",
+    ];
+    for (number, (line, name)) in lines[2..].iter().zip(names).enumerate() {
+        let (start, cells) = line.split_at(20);
+        assert_eq!(start.trim_end(), name);
+        let cells: Vec<Option<u64>> = (cells.split_whitespace())
+            .map(|cell| cell.parse().ok())
+            .collect();
+        assert_eq!(cells.len(), 4 * 4, "{line}");
+        for (family, cells) in cells.chunks(4).enumerate() {
+            match cells {
+                [Some(cases), Some(stack), Some(ran), Some(askew)] => {
+                    assert!(number == 0 || stack + ran == *cases, "{line}");
+                    assert!(stack + ran <= *cases && *cases > 0, "{line}");
+                    assert_eq!(if number < 3 { *askew } else { *stack }, 0, "{line}");
+                }
+                _ => assert!(cells == [None; 4] && name.contains("left over") && family < 2),
+            }
+        }
+    }
 }
 
 #[test]

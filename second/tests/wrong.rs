@@ -1,13 +1,13 @@
-//! The deliberately wrong variants about elements that lie together, and about LD2R to LD4R: wrong just
-//! where they should be.
+//! The deliberately wrong variants about elements that lie together, about the stack rule of block loads,
+//! and about LD2R to LD4R: wrong just where they should be.
 
 mod common;
 
 use common::*;
 use second::cases::Case;
-use second::decode::{registers, Family};
+use second::decode::{decode, registers, Family};
 use second::generate::case;
-use second::machine::Bench;
+use second::machine::{Bench, SP};
 use second::rules::Right;
 use second::sharp::sharp;
 use second::together::lies_together;
@@ -143,17 +143,124 @@ fn those_about_elements_that_lie_together_are_told_soon() {
     }
 }
 
-/// Those that are wrong about LD2R to LD4R are wrong about nothing else.
-#[test]
-fn what_is_wrong_with_several_registers_is_right_with_one() {
-    let first = "LD2R to LD4R outside, as before request One";
-    let last = "the base told as the bad address";
+/// The variants from one name to another, both among them.
+fn from_to(first: &str, last: &str) -> &'static [Variant] {
     let place = |name: &str| {
         let mut variants = VARIANTS.iter();
         variants.position(|variant| variant.name == name)
     };
     let (first, last) = (place(first).expect("it is there"), place(last).expect("so"));
-    let variants = &VARIANTS[first..=last];
+    &VARIANTS[first..=last]
+}
+
+/// Those about the stack rule of block loads, and about what lanes past the block do.
+fn about_the_stack() -> &'static [Variant] {
+    from_to(
+        "block loads check SP for the block's lanes alone",
+        "lanes past a block make its first element looked at",
+    )
+}
+
+#[test]
+fn what_is_wrong_about_the_stack_of_block_loads_is_right_elsewhere() {
+    assert_eq!(about_the_stack().len(), 23);
+    for number in 0..6_000 {
+        let case = case(23, number);
+        let right = both(&case);
+        for variant in about_the_stack() {
+            let wrong = variant.outcome(&case);
+            if wrong == right {
+                continue;
+            }
+            let load = decode(&Right, case.word, case.bench.f64mm).expect("a load");
+            let name = variant.name;
+            let block = load.family.block().is_some();
+            assert_eq!(block, !name.ends_with("checks SP for any bit"), "{name}");
+            // What makes the check is wrong for SP as base alone, what is read for any
+            if name.contains("SP") {
+                let answers = [right.report.answer, wrong.report.answer];
+                assert!(load.n == SP && answers.contains(&5), "{name} {number}");
+                assert!(case.bench.x[SP] % 16 != 0, "{name} {number}");
+            }
+        }
+    }
+}
+
+/// Which variants about the check a block load from SP = 8 tells, whose governing predicate has these bits.
+fn told_by_bits(word: u32, vl: u64, bits: &[u64]) -> Vec<&'static str> {
+    let mut bench = bench(vl);
+    bench.x[SP] = 8;
+    p0(&mut bench, bits);
+    let case = Case {
+        word: word | 31 << 5,
+        level: 0,
+        bench,
+    };
+    let right = both(&case);
+    let told = about_the_stack().iter();
+    told.filter(|variant| variant.outcome(&case) != right)
+        .map(|variant| variant.name)
+        .collect()
+}
+
+#[test]
+fn the_check_that_is_made_for_other_bits() {
+    const OWN: &str = "block loads check SP for the block's lanes alone";
+    const LD1RQ: &str = "LD1RQ checks SP for the block's lanes alone";
+    const LD1RO: &str = "LD1RO checks SP for the block's lanes alone";
+    const IMMEDIATE: &str = "immediate block loads check SP for the block's lanes alone";
+    const SCALAR: &str = "scalar block loads check SP for the block's lanes alone";
+    const WHOLE: &str = "block loads check SP for whole copies alone";
+    const BITS_16: &str = "block loads check SP for 16 predicate bits alone";
+    const BITS_32: &str = "block loads check SP for 32 predicate bits alone";
+    const LAST: &str = "block loads check SP for all lanes but the last";
+    const LANES_64: &str = "block loads check SP at lanes of 64 bits";
+    const BYTES: &str = "block loads check SP at lanes of a byte, so for any bit";
+    const ANY_PAST: &str = "block loads check SP for any bit past the block";
+    const ALWAYS: &str = "block loads always check SP";
+    const NEVER: &str = "block loads never check SP";
+    const NEXT: &str = "block loads check SP for bits of the next predicate";
+    // LD1RQD, lane 3 of 8, and LD1ROD (scalar), lane 6 of 8
+    let ld1rq = [OWN, LD1RQ, IMMEDIATE, BITS_16, NEVER];
+    assert_eq!(told_by_bits(0xA580_2000, 512, &[24]), ld1rq);
+    let ld1ro = [OWN, LD1RO, SCALAR, BITS_16, BITS_32, NEVER];
+    assert_eq!(told_by_bits(0xA5A1_0000, 512, &[48]), ld1ro);
+    // LD1ROW, the last lane of 12, which is left over; and the other bits of its group
+    let left_over = [
+        OWN, LD1RO, IMMEDIATE, WHOLE, BITS_16, BITS_32, LAST, LANES_64, NEVER,
+    ];
+    assert_eq!(told_by_bits(0xA520_2000, 384, &[44]), left_over);
+    let other_bits = [BYTES, ANY_PAST, NEXT, ALWAYS];
+    assert_eq!(told_by_bits(0xA520_2000, 384, &[45, 46, 47]), other_bits);
+    // LD1RQW, no lane of the block: other bits of its own, one of which is the first of 16-bit lanes
+    assert_eq!(told_by_bits(0xA500_2000, 384, &[2]), [BYTES, ALWAYS]);
+}
+
+#[test]
+fn those_about_the_stack_are_told_soon() {
+    for seed in [1, 2, 3] {
+        let told = sharp(seed, 4_000);
+        for variant in about_the_stack() {
+            let told = told.iter().find(|told| told.name == variant.name);
+            let first = told.and_then(|told| told.by.as_ref()).map(|by| by.number);
+            let others = variant.name.ends_with("checks SP for any bit");
+            let within = if others { 4_000 } else { 1_500 };
+            let name = variant.name;
+            assert!(
+                first.is_some_and(|first| first < within),
+                "{name} {first:?}"
+            );
+        }
+    }
+}
+
+/// Those that are wrong about LD2R to LD4R are wrong about nothing else.
+#[test]
+fn what_is_wrong_with_several_registers_is_right_with_one() {
+    let variants = from_to(
+        "LD2R to LD4R outside, as before request One",
+        "the base told as the bad address",
+    );
     assert_eq!(variants.len(), 43);
     // What they are wrong about with one register or none: the word or the post-index itself
     let others = [

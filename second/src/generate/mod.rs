@@ -7,6 +7,7 @@ mod areas;
 mod around;
 mod predicate;
 mod spoil;
+mod stack;
 mod values;
 mod windows;
 mod word;
@@ -20,8 +21,10 @@ use crate::machine::{Area, Bench, PREDICATES, SCALARS, SP, VECTORS};
 use crate::rng::Rng;
 use crate::rules::Right;
 
-/// How many of a hundred loads have an area laid around their elements.
-const AROUND: u64 = 72;
+/// How many of a hundred loads have an area laid around their elements; and how many of those that only the
+/// stack rule decides about, of which many are refused.
+const AROUND: u64 = 74;
+const AROUND_UNREAD: u64 = 94;
 
 /// The case with this number of this seed.
 pub fn case(seed: u64, number: u64) -> Case {
@@ -31,8 +34,11 @@ pub fn case(seed: u64, number: u64) -> Case {
     let mut bench = files(&mut rng, vl);
     switches(&mut rng, &mut bench);
     match decode(&Right, word, true) {
-        Ok(load) if rng.percent(AROUND) => in_an_area(&mut rng, &load, &mut bench),
-        Ok(load) => near_a_border(&mut rng, &load, &mut bench),
+        Ok(load) if stack::governs(&mut rng, &load, vl) => {
+            somewhere(&mut rng, AROUND_UNREAD, &load, &mut bench);
+            stack::govern(&mut rng, &load, &mut bench);
+        }
+        Ok(load) => somewhere(&mut rng, AROUND, &load, &mut bench),
         Err(_) => (bench.flash, bench.ram) = areas::two(&mut rng),
     }
     if rng.percent(8) {
@@ -81,6 +87,15 @@ fn files(rng: &mut Rng, vl: u64) -> Bench {
 fn switches(rng: &mut Rng, bench: &mut Bench) {
     for switch in [&mut bench.simd, &mut bench.sve, &mut bench.f64mm] {
         *switch = !rng.percent(5);
+    }
+}
+
+/// Registers and memory of a load: so many of a hundred have an area around their elements.
+fn somewhere(rng: &mut Rng, around: u64, load: &Load, bench: &mut Bench) {
+    if rng.percent(around) {
+        in_an_area(rng, load, bench);
+    } else {
+        near_a_border(rng, load, bench);
     }
 }
 

@@ -96,7 +96,8 @@ fn can_be_read(load: &Load, bench: &Bench, e: u64) -> bool {
     load.family == Family::Ld1rElement || machine.mem(e, address, load.msize / 8).is_ok()
 }
 
-fn set_bit(file: &mut [u8], bit: u64, value: bool) {
+/// Sets or clears a bit of the predicate file.
+pub fn set_bit(file: &mut [u8], bit: u64, value: bool) {
     if let Some(byte) = file.get_mut((bit / 8) as usize) {
         *byte = *byte & !(1 << (bit % 8)) | u8::from(value) << (bit % 8);
     }

@@ -1,5 +1,6 @@
 //! Words: of a family, nearly of a family, and of no family.
 
+use super::stack;
 use crate::decode::Family;
 use crate::rng::Rng;
 
@@ -25,7 +26,8 @@ pub fn of_a_family(rng: &mut Rng) -> u32 {
     let family = rng.pick(Family::ALL);
     let pattern = family.pattern();
     let mut word = rng.next_u64() as u32 & !pattern.mask | pattern.value;
-    if rng.percent(22) {
+    let from_stack = family.block().map_or(22, |_| stack::FROM_STACK);
+    if rng.percent(from_stack) {
         set_register(&mut word, RN, 31);
     }
     if family.is_ldnr() {
