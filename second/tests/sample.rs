@@ -235,6 +235,47 @@ fn every_number_of_registers_has_its_answers_sizes_and_lengths() {
     assert_eq!(faults.len(), (1 + 2 + 3 + 4) * 2 * 2);
 }
 
+/// What a sample has of block loads from the stack is counted here from words, predicates and SP alone.
+#[test]
+fn every_block_load_meets_the_stack_rule_in_every_way() {
+    let (mut met, mut sizes) = (BTreeSet::new(), BTreeSet::new());
+    for case in cases_of(sample_1()) {
+        let (word, bench) = (case.word, &case.bench);
+        let block = Family::of(word).and_then(Family::block);
+        let answer = both(&case).report.answer;
+        let (Some(block), true) = (block, word >> 5 & 31 == 31 && [0, 5].contains(&answer)) else {
+            continue;
+        };
+        let size = (bench.vl / 8) as usize;
+        let first = (word >> 10 & 7) as usize * size;
+        let bit = |bit: &usize| bench.p[(first + bit) / 8] >> ((first + bit) % 8) & 1 == 1;
+        let group = 1 << (word >> 23 & 3);
+        let lowest = (0..size).step_by(group).find(bit);
+        let whole = size / (block as usize / 8) * (block as usize / 8);
+        let active = match lowest {
+            Some(lane) if lane < block as usize / 8 => "block",
+            Some(lane) if lane < whole => "later",
+            Some(_) => "left over",
+            None if (0..size).any(|number| bit(&number)) => "other bits",
+            None => "no bit",
+        };
+        let askew = bench.x[31] % 16 != 0;
+        assert_eq!(answer == 5, askew && lowest.is_some());
+        let form = (block, word >> 13 & 1);
+        if askew || lowest.is_some() {
+            met.insert((form, active, answer));
+        }
+        if askew && !["block", "no bit"].contains(&active) {
+            sizes.insert((form, active, group));
+        }
+    }
+    // Lanes of the block and of a later copy with both answers, other bits and none with one; LD1RO alone
+    // leaves lanes over
+    assert_eq!(met.len(), 4 * (2 * 2 + 2) + 2 * 2, "{met:?}");
+    // A byte has no other bits
+    assert_eq!(sizes.len(), 4 * (4 + 3) + 2 * 4, "{sizes:?}");
+}
+
 #[test]
 fn every_family_meets_every_edge_of_lying_together() {
     let sample = sample_1();
@@ -296,7 +337,7 @@ fn every_wrong_window_is_told_apart() {
 
 #[test]
 fn every_wrong_variant_is_told_apart() {
-    assert!(VARIANTS.len() >= 156);
+    assert!(VARIANTS.len() >= 180);
     let names: BTreeSet<&str> = VARIANTS.iter().map(|variant| variant.name).collect();
     assert_eq!(names.len(), VARIANTS.len());
     for seed in [1, 7] {

@@ -8,6 +8,7 @@ use crate::edges::{edges_of, Edge};
 use crate::generate;
 use crate::machine::{Answer, Refusal, SP};
 use crate::rules::{Right, Rules};
+use crate::stack::{Active, FromStack, BLOCKS};
 use crate::together::lies_together;
 use crate::touched::{pages_read, PageOf};
 use crate::wrong::VARIANTS;
@@ -57,6 +58,10 @@ pub enum Cell {
     LaterFault(Family),
     /// A load that ran from the stack.
     FromStack(Family),
+    /// A block load from the stack with this active, that the stack rule refused or that ran.
+    BlockFromStack(Family, Active, bool),
+    /// The same with an SP that is no multiple of 16, at this lane size.
+    BlockAskew(Family, Active, u64),
     /// A read around 2^64.
     Wrapped,
     Level(u32),
@@ -83,6 +88,7 @@ impl Cell {
             Cell::AtLimit | Cell::Refused(Refusal::FlashLimit | Refusal::RamLimit) => 1,
             Cell::Tells(_) | Cell::TogetherAt(..) | Cell::Meets(..) | Cell::Pairwise(_) => 1,
             Cell::PageRan(_) | Cell::PageDenied(_) | Cell::OwnRight { .. } => 1,
+            Cell::BlockFromStack(..) | Cell::BlockAskew(..) => 1,
             Cell::Structure(structure) => structure.wanted(),
             _ => EACH,
         }
@@ -129,6 +135,7 @@ pub fn all_cells() -> Vec<Cell> {
     cells.extend((0..VARIANTS.len()).map(Cell::Tells));
     cells.extend(pairs().into_iter().map(Cell::Pairwise));
     cells.extend(cells_of_pages());
+    cells.extend(BLOCKS.into_iter().flat_map(cells_from_stack));
     cells.extend(all_structures().into_iter().map(Cell::Structure));
     for &edge in Edge::MISSED {
         cells.push(Cell::Missed(edge, true));
@@ -171,6 +178,28 @@ fn cells_of_pages() -> Vec<Cell> {
         }
         let others = (0..PAGES_AT_MOST).filter(|other| *other != own);
         cells.extend(others.map(|other| Cell::OwnRight { own, other }));
+    }
+    cells
+}
+
+/// What a sample must have of block loads from the stack: all that can be active, with an SP that is no
+/// multiple of 16 at each lane size, unless the block's own lanes decide or no bit is set; and lanes past the block
+/// with one that is.
+fn cells_from_stack(family: Family) -> Vec<Cell> {
+    let mut cells = Vec::new();
+    for active in Active::ALL
+        .into_iter()
+        .filter(|active| active.can_be(family, 64))
+    {
+        cells.push(Cell::BlockFromStack(family, active, active.lane()));
+        if active.lane() {
+            cells.push(Cell::BlockFromStack(family, active, false));
+        }
+        if !matches!(active, Active::InBlock | Active::NoBit) {
+            let sizes = [8, 16, 32, 64].into_iter();
+            let sizes = sizes.filter(|esize| active.can_be(family, *esize));
+            cells.extend(sizes.map(|esize| Cell::BlockAskew(family, active, esize)));
+        }
     }
     cells
 }
@@ -236,7 +265,35 @@ fn cells_of_a_read(case: &Case, outcome: &Outcome, answer: Answer) -> Vec<Cell> 
     if answer == Answer::Ran {
         cells.extend(cells_of_a_run(case, &load, count));
     }
+    if matches!(answer, Answer::Ran | Answer::Stack) {
+        cells.extend(cells_of_a_block(case, answer));
+    }
     cells.extend(cells_of_rights(case, outcome, answer, &load));
+    cells
+}
+
+/// The cells of a block load from the stack; without a lane only one that ran with SP no multiple of 16 counts.
+fn cells_of_a_block(case: &Case, answer: Answer) -> Vec<Cell> {
+    let Some(from_stack) = FromStack::of(case, answer.number()) else {
+        return Vec::new();
+    };
+    let FromStack {
+        family,
+        esize,
+        active,
+        askew,
+    } = from_stack;
+    let mut cells = Vec::new();
+    if askew || active.lane() {
+        cells.push(Cell::BlockFromStack(
+            family,
+            active,
+            answer == Answer::Stack,
+        ));
+    }
+    if askew {
+        cells.push(Cell::BlockAskew(family, active, esize));
+    }
     cells
 }
 

@@ -19,7 +19,7 @@ use crate::wrong::{VARIANTS, WINDOW_VARIANTS};
 use choose::{Candidate, Chosen, Wanted};
 
 /// How many steps a sample has at least.
-pub const CASES: usize = 680;
+pub const CASES: usize = 700;
 /// How many cases of a seed are looked at, and how often as many again if something is missing.
 const STEPS: u64 = 200_000;
 const WINDOWS: u64 = 12_000;
