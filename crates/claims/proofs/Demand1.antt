@@ -39,17 +39,24 @@ demand-1-counted = Rattle.steps.proofs.Demand1.demand-1-counted
 pub demand-1-count : (l : Lent) (w : ℕ) (b : Bench) (r : StepResult) (l₁ : Lent) (b₁ : Bench) → StepPromise l w b r l₁ b₁ → r .count ≤ 256
 demand-1-count = Rattle.steps.proofs.Demand1.demand-1-count
 
--- SP is the base and no multiple of 16, and a predicate governs: 5 if a lane is active anywhere in VL, one of the block or not; and if none is,
--- the load runs, and reads nothing.
+-- 5 is given for a load that is defined and on, SP its base and no multiple of 16, and where a predicate governs with a lane active anywhere in VL;
+-- and for nothing else.
+pub stack-only : (l : Lent) (w : ℕ) (b : Bench) (r : StepResult) (l₁ : Lent) (b₁ : Bench) → StepPromise l w b r l₁ b₁ → numberOf (r .answer) ≡ 5
+    → (i : Insn) × Defined l w b i × (i .base ≡ 31) × (scalar (b .scalars) 31 % 16 ≡ 0 → ⊥)
+    × ((g : ℕ) → i .governing ≡ By g → (e : ℕ) × (e * (8 * laneBytes i) < l .settings .vl) × LaneActive l i e)
+stack-only = Rattle.steps.proofs.Stacks.stack-only
+
+-- Such a load, SP its base and no multiple of 16, governed by a predicate: 5 if a lane is active anywhere in VL, one of the block or not; and if
+-- none is, it runs, and reads nothing.
 pub stack-anywhere : (l : Lent) (w : ℕ) (b : Bench) (r : StepResult) (l₁ : Lent) (b₁ : Bench) (p : StepPromise l w b r l₁ b₁) (i : Insn)
-    (d : Defined l w b i) (sp : i .base ≡ 31) (odd : scalar (b .scalars) 31 % 16 ≡ 0 → ⊥) → (g : ℕ) → i .governing ≡ By g
+    (d : Defined l w b i) (sp : i .base ≡ 31) (askew : scalar (b .scalars) 31 % 16 ≡ 0 → ⊥) → (g : ℕ) → i .governing ≡ By g
     → ((e : ℕ) → e * (8 * laneBytes i) < l .settings .vl → LaneActive l i e → reportOf r ≡ reportWith 5 0 0 0)
     × (((e : ℕ) → e * (8 * laneBytes i) < l .settings .vl → LaneActive l i e → ⊥) → reportOf r ≡ reportWith 0 0 0 0)
 stack-anywhere = Rattle.steps.proofs.Stacks.stack-anywhere
 
--- .. and no predicate governs, as of LD1R to LD4R: 5.
+-- .. and governed by none, as LD1R to LD4R are: 5.
 pub stack-always : (l : Lent) (w : ℕ) (b : Bench) (r : StepResult) (l₁ : Lent) (b₁ : Bench) (p : StepPromise l w b r l₁ b₁) (i : Insn)
-    (d : Defined l w b i) (sp : i .base ≡ 31) (odd : scalar (b .scalars) 31 % 16 ≡ 0 → ⊥) → i .governing ≡ None → reportOf r ≡ reportWith 5 0 0 0
+    (d : Defined l w b i) (sp : i .base ≡ 31) (askew : scalar (b .scalars) 31 % 16 ≡ 0 → ⊥) → i .governing ≡ None → reportOf r ≡ reportWith 5 0 0 0
 stack-always = Rattle.steps.proofs.Stacks.stack-always
 
 -- A load that is past the stack rule reads through an SP that is a multiple of 16, if SP is its base and it reads at all.

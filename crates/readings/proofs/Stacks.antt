@@ -1,7 +1,7 @@
 -- The premises of the stack rule's laws can be met, and each law is used with these and no other: LD1RQD {Z0.D}, P0/Z, [SP] with SP = 8 and one lane active,
 -- which is none of the block's, with SP = 8 and none, and with SP = 4,096, where it reads; and LD1R {V0.16B}, [SP] with SP = 8.
 use Prim.Native.Nat.{ℕ, zero, suc, _*_, _%_, _^_, _<_}
-use mathlib.Core.Path.{_≡_, refl}
+use mathlib.Core.Path.{_≡_, refl, ap}
 use mathlib.Core.Bool.{true, false}
 use mathlib.Core.List.{List, [], _∷_}
 use native.Mathlib.Omega.{arith}
@@ -21,7 +21,7 @@ use Rattle.steps.specs.Said.{LaneActive}
 use Rattle.steps.specs.Demand1.{On, Defined}
 use Rattle.steps.specs.declared.StepResult.{StepResult}
 use Rattle.steps.proofs.Accepts.{accepted-exactly}
-use Rattle.steps.proofs.Stacks.{stack-read, stack-anywhere, stack-always}
+use Rattle.steps.proofs.Stacks.{stack-only, stack-anywhere, stack-always, stack-read}
 use Rattle.readings.proofs.Cases.{only, _≔_, sp, empty, page, allOn, SetUp, setUpWith, lentBy, benchBy, eight}
 
 -- both loads
@@ -84,3 +84,8 @@ stacks-used =
       stack-read _ _ _ ld1rqd (record { defined = defined 0xA58023E0 ld1rqd (stackBench own 4096) small refl refl refl refl; stack = λ _ _. refl })
           refl 0 (lit< tt, refl),
     )
+
+-- and the first, which answers 5, is a load with SP as base
+pub only-used : (r : StepResult) (l₁ : Lent) (b₁ : Bench) → StepPromise (lentBy (stackBench past 8)) 0xA58023E0 (benchBy (stackBench past 8)) r l₁ b₁
+    → (i : Insn) × (i .base ≡ 31)
+only-used r l₁ b₁ p = let f = stack-only _ _ _ r l₁ b₁ p (ap (λ (t : Report). t .number) (stacks-used .0 r l₁ b₁ p)) in (f .0, f .2)

@@ -1,4 +1,4 @@
--- The starred readings of the scope of work, as one statement over one table of cases, by computation.
+-- The starred readings of the scope of work, A58023E0 as request Two amends it, as one statement over one table of cases, by computation.
 use Prim.Native.Nat.{ℕ, _+_, _-_, _^_}
 use mathlib.Core.Path.{refl}
 use mathlib.Core.List.{List, [], _∷_, _++_}
@@ -96,7 +96,8 @@ ours =
     1 7 (copies 2 eight) (sp ≔ 4104 ∷ pc ≔ 0 ∷ [])
     -- LD1R {V0.16B}, [SP], SP = 4,104 in readable memory, no predicate bit set. Refused: SP a multiple of 8; LD1R checks SP by a predicate.
     ∷ refuses 0x4D40C3E0 (setUpWith (allOn 128) (noneActive 128) (page (rising 1 16)) empty (sp ≔ 4104 ∷ [])) 5
-    -- A58023E0 again, lane 1 active, which is the block's. Refused: no check of SP but for LD1R; a check that asks lane 0 alone, or the copies.
+    -- A58023E0 again, lane 1 active, which is the block's. Refused: no check of SP but for LD1R; a check that asks lane 0
+    -- alone, or the lanes past the block alone.
     ∷ refuses 0xA58023E0 (setUpWith (allOn 256) (only 256 0 (0 ∷ 1 ∷ 0 ∷ 0 ∷ [])) (page (rising 1 32)) empty (sp ≔ 4104 ∷ [])) 5
     -- .. and with every bit of P0 set but the lanes' first, SP = 8. Refused: any bit of the predicate counts; a block load always checks.
     ∷ ran 0xA58023E0 (setUpWith (allOn 256) (only 256 0 (0xFE ∷ 0xFE ∷ 0xFE ∷ 0xFE ∷ [])) (page eight) empty (sp ≔ 8 ∷ [])) 0 0 (zeros 32) []
@@ -105,6 +106,12 @@ ours =
     -- LD1ROB {Z0.B}, P0/Z, [SP] at VL 384, SP = 8, lane 47 alone active: the last of the 16 that one block of 32 leaves over. Refused: a check
     -- that asks whole blocks alone; one that asks lanes of 16 bits or more, whatever the lane size.
     ∷ refuses 0xA42023E0 (setUpWith (allOn 384) (only 384 0 (0 ∷ 0 ∷ 0 ∷ 0 ∷ 0 ∷ 0x80 ∷ [])) (page (rising 1 32)) empty (sp ≔ 8 ∷ [])) 5
+    -- .. and all lanes active at VL 128, or with SVE off. Refused: the stack rule comes before short VL, or before the switch.
+    ∷ refuses 0xA42023E0 (setUpWith (allOn 128) (allActive 128) (page (rising 1 32)) empty (sp ≔ 4104 ∷ [])) 3
+    ∷ refuses 0xA42023E0 (setUpWith (sveOff 256) (allActive 256) (page (rising 1 32)) empty (sp ≔ 4104 ∷ [])) 4
+    -- LD1RQD {Z0.D}, P0/Z, [X15] with X15 = 4,104 and SP = 8. Refused: SP is checked, or must the base be a multiple of 16, whatever the base.
+    ∷ ran 0xA58021E0 (setUpWith (allOn 256) (allActive 256) (page (nines 8 ++ rising 1 16)) empty (15 ≔ 4104 ∷ sp ≔ 8 ∷ []))
+    2 0 (copies 2 (rising 1 16)) []
     -- LD1RQW {Z8.S}, P2/Z, [X3, #-16] at VL 384: lane 2 of the block is inactive; of its copies, lanes 6 and 10 have their bit set and lanes
     -- 4, 5, 7, 8, 9 and 11 have not. Refused: a copy's lane asks its own bit; an inactive lane keeps its value; the immediate counts
     -- elements or vectors.

@@ -113,7 +113,7 @@ module _ (l : Lent) (x : List ℕ) (allowed : LengthAllowed (l .settings .vl)) (
       let s = lane-active l (plan (Block wide o)) e in
       (λ h. (h .0, s (each-own wide long e (h .0)) .0 (h .1)), λ h. (h .0, s (each-own wide long e (h .0)) .1 (h .1)))
 
-  -- the SP check is made exactly when the scope says so
+  -- the SP check is made exactly when the scope, with request Two, says so
   pub checks-exactly : (s : Shape) → (checksStack (plan s) (governingBytes l (plan s)) ≡ true) ↔ ChecksAs s l i
   unfolding spreadOf checksStack
   checks-exactly (Replicate q back) = (λ h. tt, λ h. refl)

@@ -25,7 +25,7 @@ use Rattle.steps.specs.Outcomes.{Outcome, answersOf, surveyOf, outcomeOf
 use Rattle.steps.specs.Step.{isWide, switchedOn, stackFails, Prepared, Stop, Go, refusals}
 use Rattle.steps.specs.Step.{plannedLoad, plannedBy, plannedOf, atStack, preparedOf, carriedOut, stepOf}
 use Rattle.steps.specs.Demand1 as S
-use Rattle.steps.specs.Said.{Accepted, Active, byteAt}
+use Rattle.steps.specs.Said.{Accepted, Active, Checks, byteAt}
 use Rattle.steps.specs.Demand1.{FirstBad, Counted, Wide, On, Defined, Ready, AllReadable, elementLimit, Given}
 use Rattle.steps.specs.declared.Plan.{Plan}
 use Rattle.steps.specs.declared.Planned.{Planned}
@@ -217,21 +217,27 @@ module _ (l : Lent) (w : ℕ) (b : Bench) where
   pub given-exactly : w < 2 ^ 32 → (r : Report) → Given l w b r ↔ (stepOf l w b .report ≡ r)
   given-exactly small r = (meant small r, λ e. subst (Given l w b) e (step-given small))
 
-  -- 0 is given for a load that is ready and can read all it asks for, and for nothing else
-  ran-of : (r : Report) → Given l w b r → r .number ≡ 0 → (i : Insn) × Ready l w b i × AllReadable l b i
-  ran-of r (S.ran i ready all c) z = (i, ready, all)
-  ran-of r (S.set-up a) z = absurd (omega arith)
-  ran-of r (S.outside a e) z = absurd (omega arith)
-  ran-of r (S.undefined a e) z = absurd (omega arith)
-  ran-of r (S.no-f64mm i a e v f) z = absurd (omega arith)
-  ran-of r (S.switched-off i a e has o) z = absurd (omega arith)
-  ran-of r (S.short i a e v has on s) z = absurd (omega arith)
-  ran-of r (S.stack i d h c q) z = absurd (omega arith)
-  ran-of r (S.no-memory i e k ready f c) z = absurd (omega arith)
-  ran-of r (S.denied i e k ready f c) z = absurd (omega arith)
+  -- 0 is given for a load that is ready and can read all it asks for, 5 for one whose base, SP, fails, and neither for anything else
+  abbrev pub Runs : Type 0
+  Runs = (i : Insn) × Ready l w b i × AllReadable l b i
+
+  abbrev pub Fails : Type 0
+  Fails = (i : Insn) × Defined l w b i × (i .base ≡ 31) × Checks l i × (scalar (b .scalars) 31 % 16 ≡ 0 → ⊥)
+
+  pub row-of : (r : Report) → Given l w b r → (r .number ≡ 0 → Runs) × (r .number ≡ 5 → Fails)
+  row-of r (S.ran i ready all c) = (λ z. (i, ready, all), λ z. absurd (omega arith))
+  row-of r (S.set-up a) = (λ z. absurd (omega arith), λ z. absurd (omega arith))
+  row-of r (S.outside a e) = (λ z. absurd (omega arith), λ z. absurd (omega arith))
+  row-of r (S.undefined a e) = (λ z. absurd (omega arith), λ z. absurd (omega arith))
+  row-of r (S.no-f64mm i a e v f) = (λ z. absurd (omega arith), λ z. absurd (omega arith))
+  row-of r (S.switched-off i a e has o) = (λ z. absurd (omega arith), λ z. absurd (omega arith))
+  row-of r (S.short i a e v has on s) = (λ z. absurd (omega arith), λ z. absurd (omega arith))
+  row-of r (S.stack i d h c q) = (λ z. absurd (omega arith), λ z. (i, d, h, c, q))
+  row-of r (S.no-memory i e k ready f c) = (λ z. absurd (omega arith), λ z. absurd (omega arith))
+  row-of r (S.denied i e k ready f c) = (λ z. absurd (omega arith), λ z. absurd (omega arith))
 
   pub ran-only : w < 2 ^ 32 → stepOf l w b .report .number ≡ 0 → (i : Insn) × Ready l w b i × AllReadable l b i
-  ran-only small = ran-of _ (step-given small)
+  ran-only small = row-of _ (step-given small) .0
 
   pub runs : (i : Insn) → Ready l w b i → AllReadable l b i → stepOf l w b .report .number ≡ 0
   runs i ready all = ap (λ (r : Report). r .number) (surveyed i ready _ (survey-clear l b i (ready .defined .accepted) (ready .defined .long) all))

@@ -1,5 +1,5 @@
--- Document 01's own words and formulas, and where LD2R to LD4R came in page 004's, as statements about an instruction and the lent bench. Nothing
--- here uses the plan: the demands are stated in these words, and their proofs tie the plan to them.
+-- Document 01's own words and formulas, of the stack rule request Two's, and where LD2R to LD4R came in page 004's, as statements about an
+-- instruction and the lent bench. Nothing here uses the plan: the demands are stated in these words, and their proofs tie the plan to them.
 use Prim.Native.Nat.{ℕ, zero, suc, _+_, _*_, _/_, _%_, _^_, _≤_, _<_}
 use mathlib.Core.Path.{_≡_}
 use mathlib.Core.Bool.{Bool}
