@@ -5,7 +5,7 @@ use mathlib.Core.Bool.{Bool, true, false}
 use mathlib.Core.List.{List}
 use mathlib.Core.Logic.{_↔_}
 use Prim.Native.Nat.{ℕ, zero, suc, _*_, _/_, _%_, _^_, _≤_, _<_}
-use native.Mathlib.Nat.{mod-lt, mod-eq-of-lt, zero-mul, zero-div, div-lt-iff-lt-mul}
+use native.Mathlib.Nat.{mod-lt, mod-eq-of-lt, zero-mul, zero-div, div-lt-iff-lt-mul, mul-left-comm, lt-of-mul-lt-mul-right}
 use native.Mathlib.Omega.{arith}
 use lib.Dec.{ltb, eqb, lit<}
 use lib.ListN.{drop}
@@ -14,7 +14,7 @@ use borrow.Author.Tests.{eq-eqb, eqb-true, ltb-true, lt-ltb}
 use Rattle.ground.specs.Choices.{if_then_else_}
 use Rattle.ground.specs.Lists.{anyBelow}
 use Rattle.ground.proofs.Laws.{never, if-cases, any-of, any-at, and-left, and-right, and-both}
-use Rattle.ground.proofs.Sizes.{bytes-some, in-lanes, register-room}
+use Rattle.ground.proofs.Sizes.{bytes-some, in-lanes, register-room, register-lanes}
 use Rattle.ground.specs.Sizes.{bytesOf}
 use Rattle.ground.specs.declared.Size.{Size}
 use Rattle.steps.specs.Insns.{Insn, Shape, Replicate, ByElement, Contiguous, Block, Governing, None, By}
@@ -35,14 +35,6 @@ block-bytes true = (refl, lit< tt)
 
 pub block-some : (wide : Bool) (s : Size) → 0 < blockBytes wide / bytesOf s
 block-some wide s = let b = block-bytes wide in in-lanes s (blockBytes wide) (b .0) 0 .1 (rw zero-mul (b .1))
-
-block-within : (wide : Bool) (s : Size) (vl e : ℕ) → 128 ≤ vl → (wide ≡ true → 256 ≤ vl) → e < blockBytes wide / bytesOf s
-    → e * bytesOf s / 8 < vl / 64
-block-within wide s vl e h long k = go wide long (in-lanes s (blockBytes wide) (block-bytes wide .0) e .0 k)
-  where
-    go : (wide : Bool) → (wide ≡ true → 256 ≤ vl) → e * bytesOf s < blockBytes wide → e * bytesOf s / 8 < vl / 64
-    go false w q = omega arith
-    go true w q = let g = w refl in omega arith
 
 -- 64 bits (Q=0) or 128
 eighth : (q : ℕ) → (if eqb q 1 then 16 else 8) % 8 ≡ 0
@@ -83,6 +75,25 @@ module _ (l : Lent) (p : Plan) where
     λ r. any-of (isActive p (governingBytes l p)) n (r .0) (r .1) (lane-active (r .0) (there (r .0) (r .1)) .1 (r .2)),
   )
 
+module _ (l : Lent) (allowed : LengthAllowed (l .settings .vl)) (i : Insn) where
+  -- the lanes of the register are those that start before bit VL
+  pub in-register : (e : ℕ) → (e < N l i) ↔ (e * (8 * laneBytes i) < l .settings .vl)
+  in-register e = (
+    λ h. rw (mul-left-comm e 8 (laneBytes i)) (omega (arith, register-room (l .settings .vl) (laneBytes i) e h, bytes-some (i .element .lane), allowed .multiple)),
+    λ h.
+        let q = rw (mul-left-comm e 8 (laneBytes i)) at h in
+        lt-of-mul-lt-mul-right (laneBytes i) (rw (register-lanes (i .element .lane) (l .settings .vl) (allowed .multiple)) (omega (arith, q, allowed .multiple))),
+  )
+
+  -- a lane of a block is one of them
+  pub own-lane : (wide : Bool) → (wide ≡ true → 256 ≤ l .settings .vl) → (e : ℕ) → e < K wide i → e < N l i
+  own-lane wide long e h =
+      in-register e .1 (rw (mul-left-comm e 8 (laneBytes i)) (go wide long (in-lanes (i .element .lane) (blockBytes wide) (block-bytes wide .0) e .0 h)))
+    where
+      go : (wide : Bool) → (wide ≡ true → 256 ≤ l .settings .vl) → e * laneBytes i < blockBytes wide → 8 * (e * laneBytes i) < l .settings .vl
+      go false w q = omega (arith, allowed .least)
+      go true w q = let g = w refl in omega arith
+
 module _ (l : Lent) (x : List ℕ) (allowed : LengthAllowed (l .settings .vl)) (i : Insn) where
   abbrev plan : Shape → Plan
   plan s = planWith i (spreadOf (l .settings .vl) x i s)
@@ -92,7 +103,7 @@ module _ (l : Lent) (x : List ℕ) (allowed : LengthAllowed (l .settings .vl)) (
   each-lane e h = omega (arith, register-room (l .settings .vl) (laneBytes i) e h, bytes-some (i .element .lane), allowed .multiple)
 
   each-own : (wide : Bool) → (wide ≡ true → 256 ≤ l .settings .vl) → (e : ℕ) → e < K wide i → e * laneBytes i / 8 < l .settings .vl / 64
-  each-own wide long e h = block-within wide (i .element .lane) (l .settings .vl) e (allowed .least) long h
+  each-own wide long e h = each-lane e (own-lane l allowed i wide long e h)
 
   own-some : (wide : Bool) → 0 < K wide i
   own-some wide = block-some wide (i .element .lane)

@@ -1,12 +1,8 @@
 -- The stack rule by itself: "SP as base must be a multiple of 16. LD1R always checks", and so do LD2R to LD4R; the others, LD1RQ and LD1RO among
 -- them, "if any lane at that lane size is active anywhere in VL".
 use mathlib.Core.Path.{_≡_, refl, sym, subst}
-use mathlib.Core.Bool.{Bool, true, false}
 use mathlib.Core.Logic.{_↔_}
 use Prim.Native.Nat.{ℕ, zero, suc, _*_, _%_, _≤_, _<_}
-use native.Mathlib.Nat.{mul-left-comm, lt-of-mul-lt-mul-right}
-use native.Mathlib.Omega.{arith}
-use Rattle.ground.proofs.Sizes.{bytes-some, in-lanes, register-room, register-lanes}
 use Rattle.words.specs.Ranges.{Governed, ShapeInRange}
 use Rattle.words.proofs.Ranges.{means-in-range}
 use Rattle.steps.specs.Insns.{Insn, Shape, Replicate, ByElement, Contiguous, Block, Governing, None, By}
@@ -14,11 +10,11 @@ use Rattle.steps.specs.Benches.{Lent, Bench}
 use Rattle.steps.specs.Answers.{numberOf, reportWith, reportOf}
 use Rattle.steps.specs.Terms.{scalar}
 use Rattle.steps.specs.Step.{StepPromise}
-use Rattle.steps.specs.Said.{LengthAllowed, laneBytes, N, K, LaneActive, ActiveAs, Active, ChecksAs, Checks}
+use Rattle.steps.specs.Said.{LengthAllowed, laneBytes, N, LaneActive, ActiveAs, Active, ChecksAs, Checks}
 use Rattle.steps.specs.Demand1 as S
 use Rattle.steps.specs.Demand1.{WideAs, Counted, Defined, Ready, elementLimit}
 use Rattle.steps.specs.declared.StepResult.{StepResult}
-use Rattle.steps.proofs.Actives.{block-bytes}
+use Rattle.steps.proofs.Actives.{in-register, own-lane}
 use Rattle.steps.proofs.Gives.{row-of}
 use Rattle.steps.proofs.Demand1.{demand-1-promise}
 
@@ -33,36 +29,19 @@ counted-none P h zero = S.start
 counted-none P h (suc n) = S.miss (h n) (counted-none P h n)
 
 module _ (l : Lent) (allowed : LengthAllowed (l .settings .vl)) (i : Insn) where
-  -- the lanes of the register are those that start before bit VL
-  in-register : (e : ℕ) → (e < N l i) ↔ (e * (8 * laneBytes i) < l .settings .vl)
-  in-register e = (
-    λ h. rw (mul-left-comm e 8 (laneBytes i)) (omega (arith, register-room (l .settings .vl) (laneBytes i) e h, bytes-some (i .element .lane), allowed .multiple)),
-    λ h.
-        let q = rw (mul-left-comm e 8 (laneBytes i)) at h in
-        lt-of-mul-lt-mul-right (laneBytes i) (rw (register-lanes (i .element .lane) (l .settings .vl) (allowed .multiple)) (omega (arith, q, allowed .multiple))),
-  )
-
-  -- a lane of the block is one of the register's
-  own-in-register : (wide : Bool) → (wide ≡ true → 256 ≤ l .settings .vl) → (e : ℕ) → e < K wide i → e < N l i
-  own-in-register wide long e h = in-register e .1 (rw (mul-left-comm e 8 (laneBytes i)) (go wide long h))
-    where
-      go : (wide : Bool) → (wide ≡ true → 256 ≤ l .settings .vl) → e < K wide i → 8 * (e * laneBytes i) < l .settings .vl
-      go false long h = omega (arith, in-lanes (i .element .lane) _ (block-bytes false .0) e .0 h, allowed .least)
-      go true long h = omega (arith, in-lanes (i .element .lane) _ (block-bytes true .0) e .0 h, long refl)
-
   -- a load that reads an element checks
   active-checks : (s : Shape) → (WideAs s → 256 ≤ l .settings .vl) → (e : ℕ) → ActiveAs s l i e → ChecksAs s l i
   active-checks (Replicate q back) long e h = tt
   active-checks (ByElement imm6) long e h = h .1
   active-checks (Contiguous o) long e h = (e, h .0, h .1)
-  active-checks (Block wide o) long e h = (e, own-in-register wide long e (h .0), h .1)
+  active-checks (Block wide o) long e h = (e, own-lane l allowed i wide long e (h .0), h .1)
 
   abbrev Anywhere : Type 0
   Anywhere = (e : ℕ) × (e * (8 * laneBytes i) < l .settings .vl) × LaneActive l i e
 
   -- one that a predicate governs checks exactly if a lane is active anywhere
   some-anywhere : ((e : ℕ) × (e < N l i) × LaneActive l i e) ↔ Anywhere
-  some-anywhere = (λ c. (c .0, in-register (c .0) .0 (c .1), c .2), λ c. (c .0, in-register (c .0) .1 (c .1), c .2))
+  some-anywhere = (λ c. (c .0, in-register l allowed i (c .0) .0 (c .1), c .2), λ c. (c .0, in-register l allowed i (c .0) .1 (c .1), c .2))
 
   checks-anywhere : (s : Shape) → ShapeInRange i s → IsBy (i .governing) → ChecksAs s l i ↔ Anywhere
   checks-anywhere (Replicate q back) fine by = absurd (subst IsBy (fine .3) by)
