@@ -344,9 +344,9 @@ fn no_byte_of_the_vector_file_is_zero_before() {
     }
 }
 
-#[test]
-fn block_loads_from_the_stack_have_everything_active_that_can_be() {
-    // By family and what is active: with SP a multiple of 16, and not
+/// Block loads from the stack by family: how many by what is active, with SP a multiple of 16 and not, and how
+/// many by lane size with lanes past the block alone and SP no multiple of 16.
+fn block_loads_from_the_stack() -> ([[[u64; 2]; Active::ALL.len()]; 9], [[u64; 4]; 9]) {
     let mut found = [[[0; 2]; Active::ALL.len()]; 9];
     let mut lanes = [[0; 4]; 9];
     for number in 0..CASES {
@@ -368,6 +368,12 @@ fn block_loads_from_the_stack_have_everything_active_that_can_be() {
         let past = active.lane() && active != Active::InBlock;
         lanes[family as usize][esize.ilog2() as usize - 3] += u64::from(past && askew);
     }
+    (found, lanes)
+}
+
+#[test]
+fn block_loads_from_the_stack_have_everything_active_that_can_be() {
+    let (found, lanes) = block_loads_from_the_stack();
     for family in BLOCKS {
         let found = &found[family as usize];
         for active in Active::ALL.into_iter().filter(|a| a.can_be(family, 64)) {

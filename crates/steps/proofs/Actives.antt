@@ -5,7 +5,7 @@ use mathlib.Core.Bool.{Bool, true, false}
 use mathlib.Core.List.{List}
 use mathlib.Core.Logic.{_↔_}
 use Prim.Native.Nat.{ℕ, zero, suc, _*_, _/_, _%_, _^_, _≤_, _<_}
-use native.Mathlib.Nat.{mod-lt, mod-eq-of-lt, zero-mul, zero-div, div-lt-iff-lt-mul, mul-left-comm, lt-of-mul-lt-mul-right}
+use native.Mathlib.Nat.{mod-lt, mod-eq-of-lt, zero-mul, zero-div, div-lt-iff-lt-mul, mul-left-comm, div-div-eq-div-mul}
 use native.Mathlib.Omega.{arith}
 use lib.Dec.{ltb, eqb, lit<}
 use lib.ListN.{drop}
@@ -14,7 +14,7 @@ use borrow.Author.Tests.{eq-eqb, eqb-true, ltb-true, lt-ltb}
 use Rattle.ground.specs.Choices.{if_then_else_}
 use Rattle.ground.specs.Lists.{anyBelow}
 use Rattle.ground.proofs.Laws.{never, if-cases, any-of, any-at, and-left, and-right, and-both}
-use Rattle.ground.proofs.Sizes.{bytes-some, in-lanes, register-room, register-lanes}
+use Rattle.ground.proofs.Sizes.{bytes-some, in-lanes, register-room}
 use Rattle.ground.specs.Sizes.{bytesOf}
 use Rattle.ground.specs.declared.Size.{Size}
 use Rattle.steps.specs.Insns.{Insn, Shape, Replicate, ByElement, Contiguous, Block, Governing, None, By}
@@ -78,12 +78,12 @@ module _ (l : Lent) (p : Plan) where
 module _ (l : Lent) (allowed : LengthAllowed (l .settings .vl)) (i : Insn) where
   -- the lanes of the register are those that start before bit VL
   pub in-register : (e : ℕ) → (e < N l i) ↔ (e * (8 * laneBytes i) < l .settings .vl)
-  in-register e = (
-    λ h. rw (mul-left-comm e 8 (laneBytes i)) (omega (arith, register-room (l .settings .vl) (laneBytes i) e h, bytes-some (i .element .lane), allowed .multiple)),
-    λ h.
-        let q = rw (mul-left-comm e 8 (laneBytes i)) at h in
-        lt-of-mul-lt-mul-right (laneBytes i) (rw (register-lanes (i .element .lane) (l .settings .vl) (allowed .multiple)) (omega (arith, q, allowed .multiple))),
-  )
+  in-register e =
+      let whole : l .settings .vl / 8 % 8 ≡ 0 = omega (arith, allowed .multiple) in
+      let c : (e < N l i) ↔ (e * laneBytes i < l .settings .vl / 8) = rw div-div-eq-div-mul at (in-lanes (i .element .lane) (l .settings .vl / 8) whole e) in (
+        λ h. rw (mul-left-comm e 8 (laneBytes i)) (omega (arith, c .0 h)),
+        λ h. c .1 (let q = rw (mul-left-comm e 8 (laneBytes i)) at h in omega (arith, allowed .multiple)),
+      )
 
   -- a lane of a block is one of them
   pub own-lane : (wide : Bool) → (wide ≡ true → 256 ≤ l .settings .vl) → (e : ℕ) → e < K wide i → e < N l i

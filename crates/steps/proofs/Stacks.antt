@@ -10,7 +10,7 @@ use Rattle.steps.specs.Benches.{Lent, Bench}
 use Rattle.steps.specs.Answers.{numberOf, reportWith, reportOf}
 use Rattle.steps.specs.Terms.{scalar}
 use Rattle.steps.specs.Step.{StepPromise}
-use Rattle.steps.specs.Said.{LengthAllowed, laneBytes, N, LaneActive, ActiveAs, Active, ChecksAs, Checks}
+use Rattle.steps.specs.Said.{LengthAllowed, laneBytes, LaneActive, SomeActive, ActiveAs, Active, ChecksAs, Checks}
 use Rattle.steps.specs.Demand1 as S
 use Rattle.steps.specs.Demand1.{WideAs, Counted, Defined, Ready, elementLimit}
 use Rattle.steps.specs.declared.StepResult.{StepResult}
@@ -22,6 +22,10 @@ use Rattle.steps.proofs.Demand1.{demand-1-promise}
 abbrev IsBy : Governing → Type 0
 IsBy None = ⊥
 IsBy (By g) = Unit {0}
+
+-- "active anywhere in VL": a lane that starts before bit VL
+abbrev Anywhere : Lent → Insn → Type 0
+Anywhere l i = (e : ℕ) × (e * (8 * laneBytes i) < l .settings .vl) × LaneActive l i e
 
 -- none of the numbers below n
 counted-none : (P : ℕ → Type 0) → ((e : ℕ) → P e → ⊥) → (n : ℕ) → Counted P n 0
@@ -36,14 +40,11 @@ module _ (l : Lent) (allowed : LengthAllowed (l .settings .vl)) (i : Insn) where
   active-checks (Contiguous o) long e h = (e, h .0, h .1)
   active-checks (Block wide o) long e h = (e, own-lane l allowed i wide long e (h .0), h .1)
 
-  abbrev Anywhere : Type 0
-  Anywhere = (e : ℕ) × (e * (8 * laneBytes i) < l .settings .vl) × LaneActive l i e
-
   -- one that a predicate governs checks exactly if a lane is active anywhere
-  some-anywhere : ((e : ℕ) × (e < N l i) × LaneActive l i e) ↔ Anywhere
+  some-anywhere : SomeActive l i ↔ Anywhere l i
   some-anywhere = (λ c. (c .0, in-register l allowed i (c .0) .0 (c .1), c .2), λ c. (c .0, in-register l allowed i (c .0) .1 (c .1), c .2))
 
-  checks-anywhere : (s : Shape) → ShapeInRange i s → IsBy (i .governing) → ChecksAs s l i ↔ Anywhere
+  checks-anywhere : (s : Shape) → ShapeInRange i s → IsBy (i .governing) → ChecksAs s l i ↔ Anywhere l i
   checks-anywhere (Replicate q back) fine by = absurd (subst IsBy (fine .3) by)
   checks-anywhere (ByElement imm6) fine by = some-anywhere
   checks-anywhere (Contiguous o) fine by = some-anywhere
@@ -57,7 +58,7 @@ module _ (l : Lent) (allowed : LengthAllowed (l .settings .vl)) (i : Insn) where
   checks-always (Block wide o) fine none = absurd (subst Governed none (fine .1))
 
 -- a load that is defined and that a predicate governs checks exactly if a lane is active anywhere
-governed : (l : Lent) (w : ℕ) (b : Bench) (i : Insn) (d : Defined l w b i) (g : ℕ) → i .governing ≡ By g → Checks l i ↔ Anywhere l (d .accepted .allowed) i
+governed : (l : Lent) (w : ℕ) (b : Bench) (i : Insn) (d : Defined l w b i) (g : ℕ) → i .governing ≡ By g → Checks l i ↔ Anywhere l i
 governed l w b i d g by = checks-anywhere l (d .accepted .allowed) i (i .shape) (means-in-range w i (d .reads) .shape) (subst IsBy (sym by) tt)
 
 -- 5 is given for a load that is defined and on, SP its base and no multiple of 16, and where a predicate governs with a lane active anywhere in VL;

@@ -2,7 +2,7 @@
 use mathlib.Core.Path.{_≡_, refl}
 use mathlib.Core.Bool.{true, _&&_}
 use mathlib.Core.Logic.{_↔_}
-use Prim.Native.Nat.{_%_, _≤_}
+use Prim.Native.Nat.{_%_}
 use lib.Dec.{eqb}
 use borrow.Author.Tests.{eq-eqb, eqb-true, ne-eqb, not-true}
 use Rattle.ground.proofs.Laws.{never, and-both, and-left, and-right}
@@ -13,7 +13,7 @@ use Rattle.steps.specs.Plans.{planOf}
 use Rattle.steps.specs.Lanes.{governingBytes, checksStack}
 use Rattle.steps.specs.Step.{isWide, switchedOn, stackFails}
 use Rattle.steps.specs.Said.{Accepted, Checks}
-use Rattle.steps.specs.Demand1.{WideAs, Wide, OnAs}
+use Rattle.steps.specs.Demand1.{WideAs, OnAs}
 use Rattle.steps.specs.declared.Plan.{Plan}
 use Rattle.steps.proofs.Actives.{checks-exactly}
 

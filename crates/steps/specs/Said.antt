@@ -56,28 +56,28 @@ BitSet l (By g) n = getD (l .predicates) (g * (l .settings .vl / 64) + n / 8) 0 
 abbrev pub LaneActive : Lent → Insn → ℕ → Type 0
 LaneActive l i e = BitSet l (i .governing) (e * laneBytes i)
 
--- one of the first n lanes is active
-abbrev pub SomeActive : Lent → Insn → ℕ → Type 0
-SomeActive l i n = (e : ℕ) × (e < n) × LaneActive l i e
+-- "some lane is active": one of all N, as the pages' AnyActiveElement(mask, esize) asks
+abbrev pub SomeActive : Lent → Insn → Type 0
+SomeActive l i = (e : ℕ) × (e < N l i) × LaneActive l i e
 
 -- element e is active: "a single read is one active element with number 0: always for LD1R, and for LD1R by element exactly when some lane is
 -- active". LD2R to LD4R have as many as registers, from number 0 on
 abbrev pub ActiveAs : Shape → Lent → Insn → ℕ → Type 0
 ActiveAs (Replicate q back) l i e = e < i .registers
-ActiveAs (ByElement imm6) l i e = (e ≡ 0) × SomeActive l i (N l i)
+ActiveAs (ByElement imm6) l i e = (e ≡ 0) × SomeActive l i
 ActiveAs (Contiguous offset) l i e = (e < N l i) × LaneActive l i e
 ActiveAs (Block wide offset) l i e = (e < K wide i) × LaneActive l i e
 
 abbrev pub Active : Lent → Insn → ℕ → Type 0
 Active l i e = ActiveAs (i .shape) l i e
 
--- "LD1R always checks", and so do LD2R to LD4R. "The others check only when one of the lanes they consult is active": all N, and of LD1RQ and
--- LD1RO too, by request Two: "if any lane at that lane size is active anywhere in VL". Memory is read for the block's lanes only (`ActiveAs`)
+-- "LD1R always checks", and so do LD2R to LD4R. "The others check only when one of the lanes they consult is active": any of them, of LD1RQ and LD1RO too
+-- by request Two, "if any lane at that lane size is active anywhere in VL". Memory is read for the block's lanes only (`ActiveAs`)
 abbrev pub ChecksAs : Shape → Lent → Insn → Type 0
 ChecksAs (Replicate q back) l i = Unit {0}
-ChecksAs (ByElement imm6) l i = SomeActive l i (N l i)
-ChecksAs (Contiguous offset) l i = SomeActive l i (N l i)
-ChecksAs (Block wide offset) l i = SomeActive l i (N l i)
+ChecksAs (ByElement imm6) l i = SomeActive l i
+ChecksAs (Contiguous offset) l i = SomeActive l i
+ChecksAs (Block wide offset) l i = SomeActive l i
 
 abbrev pub Checks : Lent → Insn → Type 0
 Checks l i = ChecksAs (i .shape) l i
