@@ -1,4 +1,6 @@
 // What every crate shares: the four sizes of an element in memory and of a lane, and numbers as bytes.
+#![tactic(auto)]
+
 mod numbers;
 
 ghost use Rattle.ground.specs.Sizes.{BytesPromise, SizePromise};

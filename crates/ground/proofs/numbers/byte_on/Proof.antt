@@ -14,5 +14,5 @@ past s at i h = sym (get_or-eq_default s 0 h)
 pub byte_on_spec : {M : Type 1} → statement M
 byte_on_spec =
     tie.close (tie.spec (λ c. search rules) (λ c. search rules) (λ c. search rules) (λ c. search rules)
-    (λ c. let g = c.before.before.args in past g.s.now g.at g.i (omega (arith, c.if2.false, c.before.if1.true)))
-    (λ c. let g = c.before.args in past g.s.now g.at g.i (omega (arith, c.if1.false))))
+    (λ c. let g = c.before.before.args in past g.s.now g.at g.i (omega (arith, c.if-i-s.false, c.before.if-at-s.true)))
+    (λ c. let g = c.before.args in past g.s.now g.at g.i (omega (arith, c.if-at-s.false))))
