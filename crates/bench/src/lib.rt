@@ -1,4 +1,6 @@
 // One step of the bench: any word and any lent registers, predicates and memory, wrong sizes too, to one numbered answer.
+#![tactic(auto)]
+
 mod actives;
 mod chunks;
 mod fills;

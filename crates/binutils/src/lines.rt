@@ -2,7 +2,7 @@
 use crate::search::part;
 
 // The word of a line, or that the line is not in this form.
-#[derive(Drop)]
+#[derive(Clone, Copy)]
 pub enum Line {
     Word(u32),
     Odd,

@@ -1,5 +1,7 @@
 // Reads words with what binutils 2.40 prints for each, decodes each word, and counts where the two agree: where the word is a load, its
 // text, made from the decoded fields, is binutils' text; where it is none of ours, binutils' text is none of them either.
+#![tactic(auto)]
+
 mod lines;
 mod printed;
 mod search;
@@ -18,7 +20,7 @@ const ALL: usize = ROWS - 1;
 
 // How far the input is read: where the next line begins, and its number; whether to read on, and whether every line was in the form.
 // Then for each row of the table how many words are such, and how many of these agree.
-#[derive(Drop)]
+#[derive(Clone, Copy)]
 struct Run {
     at: u64,
     line: u64,

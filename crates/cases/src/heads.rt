@@ -8,7 +8,7 @@ use memory::{Address, Map};
 use steps::Settings;
 
 // What a case asks: the kind of question, by its number, and of one other than a step the numbers a0 to a3 and the blob's length.
-#[derive(Drop)]
+#[derive(Clone, Copy)]
 pub struct Question {
     pub kind: u64,
     pub a0: u64,
@@ -19,7 +19,7 @@ pub struct Question {
 }
 
 // What the head of a case says: the word and the settings, where the areas start, how long each part is, and what is asked.
-#[derive(Drop)]
+#[derive(Clone, Copy)]
 pub struct Case {
     pub word: u32,
     pub settings: Settings,
@@ -35,7 +35,7 @@ pub struct Case {
 }
 
 // The parts behind the head, in their order.
-#[derive(Drop)]
+#[derive(Clone, Copy)]
 pub enum Part {
     Vectors,
     Predicates,
@@ -48,7 +48,7 @@ pub enum Part {
 }
 
 // Why a case is not answered. `Room` is the caller's own: too few bytes lent for the outcome.
-#[derive(Drop)]
+#[derive(Clone, Copy)]
 pub enum Refusal {
     Ends,
     Magic,
@@ -60,7 +60,7 @@ pub enum Refusal {
 }
 
 // What bytes open with: a case of so many bytes, its head among them, or no case.
-#[derive(Drop)]
+#[derive(Clone, Copy)]
 pub enum Opened {
     Begins(Case, usize),
     Broken(Refusal),

@@ -1,4 +1,6 @@
 // The byte format of docs/CASES.md: the bytes of a case to the bytes of its outcome, by one step of the bench or by one of its windows.
+#![tactic(auto)]
+
 mod heads;
 mod outcomes;
 mod parts;
@@ -14,7 +16,7 @@ ghost use Rattle.cases.specs.Answers.{After, outcome_in, on_case, AnswerPromise}
 pub use heads::{Case, Opened, Part, Question, Refusal, head};
 
 // How a case was answered: so many bytes taken, and so many of its outcome written.
-#[derive(Drop)]
+#[derive(Clone, Copy)]
 pub enum Answered {
     Written(usize, usize),
     Not(Refusal),

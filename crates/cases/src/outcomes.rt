@@ -7,7 +7,7 @@ ghost use Rattle.cases.specs.Inside.{report_in};
 use steps::StepResult;
 
 // What is told first: the answer's number, and count, element and address.
-#[derive(Drop)]
+#[derive(Clone, Copy)]
 pub struct Told {
     pub number: u8,
     pub count: u64,

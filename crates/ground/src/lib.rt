@@ -8,7 +8,7 @@ ghost use Rattle.ground.specs.Sizes.{BytesPromise, SizePromise};
 pub use numbers::{number, put};
 
 // A size by its bits, as the scope of work writes them.
-#[derive(Drop)]
+#[derive(Clone, Copy)]
 pub enum Size {
     B8,
     B16,

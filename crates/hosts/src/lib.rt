@@ -1,5 +1,7 @@
 // One step for a host in Rust or C, which owns the files and the areas: `bench::step` on numbers and slices, told in the scope of
 // work's numbers.
+#![tactic(auto)]
+
 ghost use Rattle.std.specs.Prelude.{◌≡◌};
 ghost use Rattle.steps.specs.Answers.{report_of};
 ghost use Rattle.bench.specs.Lends.{lent_of, bench_of};
@@ -10,7 +12,7 @@ use steps::{Settings, StepResult};
 
 // What a step tells a host: the answer's number, the count of element reads, and the element and address of a fault.
 #[repr(C)]
-#[derive(Drop)]
+#[derive(Clone, Copy)]
 pub struct StepNumbers {
     pub number: u64,
     pub count: u64,

@@ -1,4 +1,6 @@
 // The lane window: what a lane of the lent vector file holds, as the operator asks for it.
+#![tactic(auto)]
+
 ghost use Rattle.std.specs.Prelude.{◌≡◌, ◌<◌, ◌^◌};
 ghost use Rattle.std.specs.Float.{binary32, binary64};
 ghost use Rattle.lanes.specs.Lanes.{width_fits, lane_there, lane_at, float_of, shown_as, ShowPromise};
@@ -7,7 +9,7 @@ ghost use Rattle.lanes.specs.Inside.{Fitting};
 use steps::allowed;
 
 // How a lane is asked for.
-#[derive(Drop)]
+#[derive(Clone, Copy)]
 pub enum Kind {
     Whole,
     Single,
@@ -15,7 +17,7 @@ pub enum Kind {
 }
 
 // What a lane holds, as asked. The language makes no float of a NaN's bits, so a NaN is a whole number with exactly its bits.
-#[derive(Drop)]
+#[derive(Clone, Copy)]
 pub enum Shown {
     Single(f32),
     Double(f64),

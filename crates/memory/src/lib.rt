@@ -1,4 +1,6 @@
 // The memory of the bench: two areas with a rights byte for each page begun, read byte by byte.
+#![tactic(auto)]
+
 ghost use Rattle.std.specs.Prelude.{◌≡◌, ◌^◌, ◌<◌, ◌≤◌, length, nat_le};
 ghost use Rattle.memory.specs.Addresses.{PlusPromise, MovedPromise};
 ghost use Rattle.memory.specs.Areas.{areas_of, end_of, is_area_accepted, share_none, AreasAcceptedPromise, covers, place_of};
@@ -14,7 +16,7 @@ pub const AREA_LIMIT: usize = 65536;
 pub const PAGE_BYTES: usize = 4096;
 
 // An address, so that it is mixed with no lane number and no offset. Its arithmetic is modulo 2^64.
-#[derive(Drop)]
+#[derive(Clone, Copy)]
 pub struct Address(pub u64);
 
 impl Address {
@@ -39,14 +41,14 @@ impl Address {
 }
 
 // Where the two areas start.
-#[derive(Drop)]
+#[derive(Clone, Copy)]
 pub struct Map {
     pub flash: Address,
     pub ram: Address,
 }
 
 // Where an address lies: so many bytes into which area.
-#[derive(Drop)]
+#[derive(Clone, Copy)]
 pub enum Place {
     Flash(usize),
     Ram(usize),
@@ -54,21 +56,21 @@ pub enum Place {
 }
 
 // Why a byte cannot be read: neither area holds it, or its page has no read right.
-#[derive(Drop)]
+#[derive(Clone, Copy)]
 pub enum Fault {
     Nowhere,
     Denied,
 }
 
 // What a load finds at an address.
-#[derive(Drop)]
+#[derive(Clone, Copy)]
 pub enum Cell {
     Byte(u8),
     Bad(Fault),
 }
 
 // What reading an element finds: its value, lowest byte first, or the first bad byte: why, and its address.
-#[derive(Drop)]
+#[derive(Clone, Copy)]
 pub enum Reading {
     Value(u64),
     Bad(Fault, Address),

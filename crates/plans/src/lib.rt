@@ -1,4 +1,6 @@
 // What a word is about to do, from the settings and the scalars: an answer that stops it, or a plan. No predicate and no memory is in sight.
+#![tactic(auto)]
+
 mod families;
 
 ghost use Rattle.std.specs.Prelude.{◌≡◌, not, ◌≤◌};

@@ -1,5 +1,7 @@
 // Steps that other machines made and that were recorded: replayed here, and each outcome held to the recorded one. Standard input
 // is a file that has a case and its recorded outcome (docs/CASES.md), one such pair after the other.
+#![tactic(auto)]
+
 mod tally;
 
 use cases::{Answered, Refusal};
@@ -20,7 +22,7 @@ fn tell(line: Text) {
 }
 
 // What became of a recorded step: so many bytes of it, its answer, and whether the outcome here is the recorded one.
-#[derive(Drop)]
+#[derive(Clone, Copy)]
 enum Seen {
     Step(usize, u8, bool),
     Refused(Refusal),
@@ -65,7 +67,7 @@ fn one_step(at: u64, stream: &mut [u8], out: &mut [u8]) -> Seen {
 }
 
 // How far the replay has come: what was seen, the next step's place and number, and whether to go on.
-#[derive(Drop)]
+#[derive(Clone, Copy)]
 struct Progress {
     tally: Tally,
     at: u64,

@@ -2,7 +2,7 @@
 use libc::STDOUT_FILENO;
 
 // How many steps were recorded with each answer, and how many of them agree.
-#[derive(Drop)]
+#[derive(Clone, Copy)]
 pub struct Tally {
     pub agree: [u64; 8],
     pub all: [u64; 8],

@@ -4,7 +4,7 @@ use lanes::{Kind, Shown};
 use memory::Address;
 
 // Where eight bytes lie, or that they lie nowhere.
-#[derive(Drop)]
+#[derive(Clone, Copy)]
 pub struct Spot {
     pub found: bool,
     pub at: Address,

@@ -1,4 +1,6 @@
 // The readings of document 01 that the checker does not settle, and of document 02, set up, stepped and printed beside what these say.
+#![tactic(auto)]
+
 mod columns;
 mod found;
 mod parts;
@@ -13,7 +15,7 @@ use rows::Row;
 use texts::Text;
 
 // How many rows came as the documents say, of how many.
-#[derive(Drop)]
+#[derive(Clone, Copy)]
 struct Tally {
     as_said: u64,
     rows: u64,

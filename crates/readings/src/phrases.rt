@@ -8,7 +8,7 @@ use texts::Text;
 
 // What a step answered and left: X0, how far PC went, whether the row's targets are as they were, and whether the other registers and X1 to
 // SP are.
-#[derive(Drop)]
+#[derive(Clone, Copy)]
 pub struct Seen {
     pub result: StepResult,
     pub x0: u64,

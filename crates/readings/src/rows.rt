@@ -3,7 +3,7 @@
 use memory::PAGE_BYTES;
 
 // What a row speaks of where the load ran.
-#[derive(Drop)]
+#[derive(Clone, Copy)]
 pub enum Tell {
     Pairs,
     First,
@@ -15,7 +15,7 @@ pub enum Tell {
 
 // What a row sets up: the word, the vector length, P0's first four bytes as a number, X0, how many bytes of each area are lent, and
 // the rights of flash's page 1. Then whether the word writes Z1 beside Z0, whether the row asks if a set-up is accepted, and what it speaks of.
-#[derive(Drop)]
+#[derive(Clone, Copy)]
 pub struct Row {
     pub word: u32,
     pub vl: u32,

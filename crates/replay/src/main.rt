@@ -1,4 +1,6 @@
 // Cases in, outcomes out, in the format of docs/CASES.md: all that matters is `cases::answer`; here it is only read and written.
+#![tactic(auto)]
+
 use cases::{Answered, Opened, Refusal};
 use libc::{STDERR_FILENO, STDIN_FILENO, STDOUT_FILENO};
 use texts::Text;
@@ -26,7 +28,7 @@ fn read_some(stream: &mut [u8], from: usize, to: usize) -> isize {
 }
 
 // What there is of a case: so many bytes, fewer than were wanted where the input ends; or standard input cannot be read.
-#[derive(Drop)]
+#[derive(Clone, Copy)]
 enum Came {
     Bytes(usize),
     Unread,

@@ -1,4 +1,6 @@
 // What a step is told in: the settings, what a load is about to do, and how a step ends.
+#![tactic(auto)]
+
 ghost use Rattle.std.specs.Prelude.{◌≡◌};
 ghost use Rattle.steps.specs.Benches.{AllowedPromise};
 ghost use Rattle.steps.specs.Answers.{fault_number, AnswerNumberPromise, AnswerElementPromise, AnswerAddressPromise};
@@ -8,7 +10,7 @@ use memory::{Address, Fault};
 use words::Governing;
 
 // The vector length in bits, and the switches.
-#[derive(Drop)]
+#[derive(Clone, Copy)]
 pub struct Settings {
     pub vl: u64,
     pub simd: bool,
@@ -24,7 +26,7 @@ pub fn allowed(vl: u64) -> bool
 }
 
 // How a step ended. A fault carries why, the first bad byte's address and its element's number.
-#[derive(Drop)]
+#[derive(Clone, Copy)]
 pub enum Answer {
     Ran,
     SetUp,
@@ -36,7 +38,7 @@ pub enum Answer {
 }
 
 // A step's result: the count of element reads beside the answer.
-#[derive(Drop)]
+#[derive(Clone, Copy)]
 pub struct StepResult {
     pub count: u64,
     pub answer: Answer,
@@ -103,7 +105,7 @@ impl Answer {
 // Always, as for LD1R to LD4R: every lane of destination j takes element j, and each element is read.
 // LaneBit, as for LD1R by element: a lane takes the one element where its own bit is 1, and the element is read where some lane is active.
 // ElementBit, as for the others: lane l takes element l mod `elements` where the bit of the lane with that number is 1, and only then is it read.
-#[derive(Drop)]
+#[derive(Clone, Copy)]
 pub enum Rule {
     Always,
     LaneBit,
@@ -114,7 +116,7 @@ pub enum Rule {
 // followed by 0: one for each element where the rule is `Always`, and else one. In each, each of the first `filled` lanes takes its element where
 // the rule says so, and every other lane becomes zero. The stack rule checks SP where one of the first `consulted` lanes is
 // active; where the rule is `Always`, it checks in any case. The base is written back where `back` says so, and `amount` is added to it.
-#[derive(Drop)]
+#[derive(Clone, Copy)]
 pub struct Plan {
     pub start: Address,
     pub size: Size,
@@ -132,7 +134,7 @@ pub struct Plan {
 }
 
 // What a word is about to do: the answer that stops it, or the plan to carry out.
-#[derive(Drop)]
+#[derive(Clone, Copy)]
 pub enum Planned {
     Stop(Answer),
     Go(Plan),

@@ -1,5 +1,7 @@
 // Why a run of a program over cases ends early, in one line: the program and what it counts, as `replay: case `, the number of the one that
 // ends it, counted from 0, and why. The programs write it on standard error.
+#![tactic(auto)]
+
 ghost use Rattle.telling.specs.Lines.{ascii, over_limit, LinePromise, RefusedPromise};
 
 use cases::{Part, Refusal};

@@ -1,9 +1,11 @@
 // Short texts, put together piece by piece.
+#![tactic(auto)]
+
 ghost use Rattle.std.specs.Prelude.{◌≡◌, min};
 ghost use Rattle.texts.specs.Texts.{TextPromise, AndPromise, DecimalPromise, SamePromise};
 
 // Up to 128 bytes, of which the first n are the text. Spaces stand behind it, so that a column is filled by writing more than the text has.
-#[derive(Drop)]
+#[derive(Clone, Copy)]
 pub struct Text {
     pub bytes: [u8; 128],
     pub n: usize,

@@ -1,6 +1,8 @@
 // Which word is which load: the family table of the scope of work.
 // A field word<hi:lo> is written word / 2^lo % 2^(hi - lo + 1), also where lo is 0, so that code and definition read alike.
 // 2^lo is written in hexadecimal, with its bit at its place in the word.
+#![tactic(auto)]
+
 ghost use Rattle.std.specs.Prelude.{◌≡◌, true, false};
 ghost use Rattle.words.specs.Dtypes.{plain_of, DtypePromise};
 ghost use Rattle.words.specs.Families.{replicate_of, sve_of, by_element_of, contiguous_of, block_of, scalar_of, read_of, ReadPromise};
@@ -10,28 +12,28 @@ ghost use Rattle.words.specs.Insns.{Is};
 use ground::Size;
 
 // What an SVE load adds to its base: a field of four bits, signed, that counts blocks; or a scalar register.
-#[derive(Drop)]
+#[derive(Clone, Copy)]
 pub enum Offset {
     Imm(u32),
     Reg(u32),
 }
 
 // Whether LD1R to LD4R write their base back: no offset, or post-index by Rm.
-#[derive(Drop)]
+#[derive(Clone, Copy)]
 pub enum Back {
     Keep,
     Post(u32),
 }
 
 // The predicate register that governs an instruction. LD1R to LD4R have none.
-#[derive(Drop)]
+#[derive(Clone, Copy)]
 pub enum Governing {
     None,
     By(u32),
 }
 
 // A row of the dtype table: an element's size in memory, its lane's, and whether its sign is extended.
-#[derive(Drop)]
+#[derive(Clone, Copy)]
 pub struct Dtype {
     pub memory: Size,
     pub lane: Size,
@@ -39,7 +41,7 @@ pub struct Dtype {
 }
 
 // What an instruction of one shape has beside what all have. Replicate is LD1R to LD4R; Contiguous is LD1; Block is LD1RQ, and LD1RO where it is wide.
-#[derive(Drop)]
+#[derive(Clone, Copy)]
 pub enum Shape {
     Replicate { q: u32, back: Back },
     ByElement { imm6: u32 },
@@ -48,7 +50,7 @@ pub enum Shape {
 }
 
 // An instruction: what every load has, and its shape. It loads so many registers, from the target on; 31 is followed by 0.
-#[derive(Drop)]
+#[derive(Clone, Copy)]
 pub struct Insn {
     pub element: Dtype,
     pub base: u32,
@@ -59,7 +61,7 @@ pub struct Insn {
 }
 
 // What a word is. Undefined is what the word alone tells; F64MM and the vector length are the bench's.
-#[derive(Drop)]
+#[derive(Clone, Copy)]
 pub enum Decoded {
     Outside,
     Undefined,
