@@ -8,10 +8,10 @@ use Rattle.memory.proofs.area_accepted.Tie as tie
 pub area_accepted_spec : {M : Type 1} → statement M
 unfolding is_area_accepted
 area_accepted_spec =
-    tie.close (tie.spec (λ c. rw (lt-leb _ _ c.if1.true))
+    tie.close (tie.spec (λ c. rw (lt-leb _ _ c.if-n-gt-AREA_LIMIT.true))
     (λ c. search rules) (λ c. search rules)
-    (λ c. rw (le-leb _ _ c.before.if1.false, ne_eqb _ _ c.if2.true)) (λ c. search rules)
-    (λ c. rw (le-leb _ _ c.before.before.before.if1.false, eq-eqb _ _ c.before.before.if2.false, ne_eqb _ _ c.if3.true)) (λ c κs. tt)
+    (λ c. rw (le-leb _ _ c.if-n-gt-AREA_LIMIT.false, ne_eqb _ _ c.if-rights-n.true)) (λ c. search rules)
+    (λ c. rw (le-leb _ _ c.if-n-gt-AREA_LIMIT.false, eq-eqb _ _ c.if-rights-n.false, ne_eqb _ _ c.if-start-ne0.true)) (λ c κs. tt)
     (λ c.
     let t = c.before.before.before in
-    c.ends.ensures ∙ rw (le-leb _ _ t.before.if1.false, eq-eqb _ _ t.if2.false, eq-eqb _ _ c.before.if3.false)))
+    c.ends.ensures ∙ rw (le-leb _ _ t.if-n-gt-AREA_LIMIT.false, eq-eqb _ _ t.if-rights-n.false, eq-eqb _ _ c.if-start-ne0.false)))

@@ -9,8 +9,8 @@ unfolding are_areas_accepted
 areas_accepted_spec =
     tie.close (tie.spec (λ c κs. tt) (λ c κs. tt) (λ c κs. tt)
     (λ c.
-    let flash = sym c.before.before.before.before.area_accepted.ensures ∙ c.before.before.before.if1.true in
-    let ram = sym c.before.before.area-accepted2.ensures ∙ c.before.if2.true in
+    let flash = sym c.area_accepted.ensures ∙ c.if-area_accepted.true in
+    let ram = sym c.area_accepted-then-area_accepted.ensures ∙ c.if-area_accepted-2.true in
     c.share_none.ensures ∙ rw (flash, ram))
-    (λ c. rw (sym c.before.before.before.area_accepted.ensures ∙ c.before.before.if1.true, sym c.before.area-accepted2.ensures ∙ c.if2.false))
-    (λ c. rw (sym c.before.area_accepted.ensures ∙ c.if1.false)))
+    (λ c. rw (sym c.area_accepted.ensures ∙ c.if-area_accepted.true, sym c.area_accepted-then-area_accepted.ensures ∙ c.if-area_accepted-2.false))
+    (λ c. rw (sym c.area_accepted.ensures ∙ c.if-area_accepted.false)))

@@ -8,5 +8,5 @@ use Rattle.memory.proofs.before.Tie as tie
 
 pub before_spec : {M : Type 1} → statement M
 before_spec = tie.close (tie.spec
-    (λ c. let a = c.before.args in sym (lt-leb (a.start.0 + a.n) a.other.0 (omega arith)))
-    (λ c. let a = c.before.args in leb_same a.n (a.other.0 - a.start.0) (a.start.0 + a.n) a.other.0 (omega arith) (omega arith)))
+    (λ c. let a = c.args in sym (lt-leb (a.start.0 + a.n) a.other.0 (omega arith)))
+    (λ c. let a = c.args in leb_same a.n (a.other.0 - a.start.0) (a.start.0 + a.n) a.other.0 (omega arith) (omega arith)))

@@ -10,8 +10,8 @@ unfolding look_of
 byte_spec =
     tie.close (tie.spec (λ c κs. search rules)
     (λ c. search rules)
-    (λ c κs. place_within _ _ _ _ _ _ (sym c.before.before.before.locate.ensures ∙ c.before.k.given.1)) (λ c. search rules)
-    (λ c κs. place_within _ _ _ _ _ _ (sym c.before.before.before.locate.ensures ∙ c.before.k2.given.1)) (λ c. search rules)
-    (λ c. c.judge.ensures ∙ rw (sym c.before.before.before.before.locate.ensures ∙ c.before.before.k.given.1))
-    (λ c. c.judge2.ensures ∙ rw (sym c.before.before.before.before.locate.ensures ∙ c.before.before.k2.given.1))
-    (λ c. rw (sym c.before.before.locate.ensures ∙ c.enum_told.given.1)))
+    (λ c κs. place_within _ _ _ _ _ _ (sym c.locate.ensures ∙ c.in-Flash.is)) (λ c. search rules)
+    (λ c κs. place_within _ _ _ _ _ _ (sym c.locate.ensures ∙ c.in-Ram.is)) (λ c. search rules)
+    (λ c. c.judge.ensures ∙ rw (sym c.locate.ensures ∙ c.in-Flash.is))
+    (λ c. c.judge-in-Ram.ensures ∙ rw (sym c.locate.ensures ∙ c.in-Ram.is))
+    (λ c. rw (sym c.locate.ensures ∙ c.in-Nowhere.is)))

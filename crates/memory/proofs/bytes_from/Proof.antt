@@ -8,15 +8,15 @@ use Rattle.memory.proofs.Turns.{SoFar, begun, bad_byte, in_word, turned, finishe
 use Rattle.memory.proofs.bytes_from.Statement.{statement}
 use Rattle.memory.proofs.bytes_from.Tie as tie
 
-abbrev invariant-loop : tie.invariant-loop
+abbrev invariant-loop : tie.invariant-loop-i
 invariant-loop map flash flash-rights ram ram-rights n here₀ value₀ i₀ here value i =
     SoFar (look_of (areas_of map flash flash-rights ram ram-rights)) here₀.0 n here.0 value i
 
-abbrev decreases-loop : tie.decreases-loop
+abbrev decreases-loop : tie.decreases-loop-i
 decreases-loop map flash flash-rights ram ram-rights n here₀ value₀ i₀ here value i = n - i
 
 -- the function's entry, from within a turn
-abbrev G : tie.In-loop invariant-loop decreases-loop → tie.Start invariant-loop decreases-loop
+abbrev G : tie.In-loop-i invariant-loop decreases-loop → tie.Start invariant-loop decreases-loop
 G t = t.before.before.before.before.before.before
 
 -- byte i of at most eight
@@ -36,24 +36,23 @@ module _ {i n : ℕ} (h : i < n) (few : n ≤ 8) where
 pub bytes_from_spec : {M : Type 1} → statement M
 bytes_from_spec =
     tie.close (tie.spec invariant-loop
-    decreases-loop (λ c. begun _ _ _) (λ c κs. tt) (λ c. c.match.keys1)
+    decreases-loop (λ c. begun _ _ _) (λ c κs. tt) (λ c. c.in-Bad-1.keys1)
     (λ c.
-    let t = c.before.before.before.before in
-    let f = c.before.f.given in
-    bad_byte t.before.loop.invariant t.loop-test.true (G t).requires f.0.0 (sym c.before.before.before.byte.ensures ∙ f.1))
-    (λ c. c.match.keys2) (λ c. search rules)
-    (λ c. let t = c.before.before.before.before in scaled_fits t.loop-test.true (G t).requires)
-    (λ c. let t = c.before.before.before.before in scaled_small t.loop-test.true (G t).requires)
+    let t = c.before.before in
+    bad_byte t.loop-i.invariant t.loop-i-test.true (G t).requires c.in-Bad.f (sym c.byte.ensures ∙ c.in-Bad.is))
+    (λ c. c.in-Byte-1.keys2) (λ c. search rules)
+    (λ c. let t = c.before.before in scaled_fits t.loop-i-test.true (G t).requires)
+    (λ c. let t = c.before.before in scaled_small t.loop-i-test.true (G t).requires)
     (λ c.
-    let t = c.before.before.before.before in
-    record { fits = in_word t.before.loop.invariant t.loop-test.true (G t).requires c.before.b.given.0.0 (omega arith) })
+    let t = c.before.before in
+    record { fits = in_word t.loop-i.invariant t.loop-i-test.true (G t).requires c.in-Byte.b (omega arith) })
     (λ c κs. tt)
-    (λ c. let t = c.before.before.before.before.before in next_fits t.loop-test.true (G t).requires)
-    (λ c. let t = c.before.before.before.before.before in less t.loop-test.true (G t).requires)
+    (λ c. let t = c.before.before.before in next_fits t.loop-i-test.true (G t).requires)
+    (λ c. let t = c.before.before.before in less t.loop-i-test.true (G t).requires)
     (λ c.
-    let t = c.before.before.before.before.before in
-    let b = c.before.before.b.given.0.0 in
-    rw c.plus.ensures
-    (turned t.before.loop.invariant t.loop-test.true (G t).requires b (omega arith)
-    (sym c.before.before.before.before.byte.ensures ∙ c.before.before.b.given.1)))
-    (λ c. finished c.before.loop.invariant c.loop-test.false))
+    let t = c.before.before.before in
+    let b = c.in-Byte.b in
+    rw c.plus-here.ensures
+    (turned t.loop-i.invariant t.loop-i-test.true (G t).requires b (omega arith)
+    (sym c.byte.ensures ∙ c.in-Byte.is)))
+    (λ c. finished c.loop-i.invariant c.loop-i-test.false))

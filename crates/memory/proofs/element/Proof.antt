@@ -7,5 +7,5 @@ use Rattle.memory.proofs.element.Tie as tie
 pub element_spec : {M : Type 1} → statement M
 element_spec = tie.close (tie.spec
     (λ c κs. search rules)
-    (λ c κs. rw c.bytes.ensures (bytes_few c.before.before.before.before.before.args.size))
-    (λ c. c.bytes-from.ensures ∙ rw c.before.bytes.ensures))
+    (λ c κs. rw c.bytes.ensures (bytes_few c.args.size))
+    (λ c. c.bytes_from.ensures ∙ rw c.bytes.ensures))

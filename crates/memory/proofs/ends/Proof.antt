@@ -7,6 +7,6 @@ use Rattle.memory.proofs.ends.Tie as tie
 
 pub ends_spec : {M : Type 1} → statement M
 ends_spec = tie.close (tie.spec
-    (λ c. let a = c.before.args in sym (le-leb (a.start.0 + a.n) (2 ^ 64) (omega arith))) (λ c. search rules) (λ c. search rules)
+    (λ c. let a = c.args in sym (le-leb (a.start.0 + a.n) (2 ^ 64) (omega arith))) (λ c. search rules) (λ c. search rules)
     (λ c.
-    let a = c.before.args in leb_same a.n (18446744073709551615 - a.start.0 + 1) (a.start.0 + a.n) (2 ^ 64) (omega arith) (omega arith)))
+    let a = c.args in leb_same a.n (18446744073709551615 - a.start.0 + 1) (a.start.0 + a.n) (2 ^ 64) (omega arith) (omega arith)))

@@ -7,5 +7,5 @@ use Rattle.memory.proofs.has.Tie as tie
 pub has_spec : {M : Type 1} → statement M
 unfolding covers
 has_spec = tie.close (tie.spec
-    (λ c. rw (lt-ltb _ _ c.if1.true))
-    (λ c. rw (le-ltb _ _ c.if1.false)))
+    (λ c. rw (lt-ltb _ _ c.if-here-first.true))
+    (λ c. rw (le-ltb _ _ c.if-here-first.false)))

@@ -9,5 +9,5 @@ pub judge_spec : {M : Type 1} → statement M
 unfolding judged
 judge_spec =
     tie.close (tie.spec (λ c. search rules)
-    (λ c. search rules) (λ c. simp (eq-eqb _ _ c.before.if2.true)) (λ c. simp (ne_eqb _ _ c.if2.false))
-    (λ c. simp (get_or-eq_default c.before.args.rights.now 0 c.if1.false)))
+    (λ c. search rules) (λ c. simp (eq-eqb _ _ c.if-rights-page-eq1.true)) (λ c. simp (ne_eqb _ _ c.if-rights-page-eq1.false))
+    (λ c. simp (get_or-eq_default c.args.rights.now 0 c.if-page-rights.false)))

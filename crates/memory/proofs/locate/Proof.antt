@@ -10,13 +10,13 @@ unfolding place_of
 locate_spec =
     tie.close (tie.spec (λ c κs. search rules)
     (λ c.
-    let g = c.before.before.before.before.before.before.args in
-    (held g.map.flash.0 g.nf g.a.0 (sym c.before.before.before.has.ensures ∙ c.before.before.if1.true)).0)
-    (λ c. rw (sym c.before.before.before.has.ensures ∙ c.before.before.if1.true)) (λ c κs. search rules)
+    let g = c.args in
+    (held g.map.flash.0 g.nf g.a.0 (sym c.has.ensures ∙ c.if-has.true)).0)
+    (λ c. rw (sym c.has.ensures ∙ c.if-has.true)) (λ c κs. search rules)
     (λ c.
-    let g = c.before.before.before.before.before.before.before.before.args in
-    (held g.map.ram.0 g.nr g.a.0 (sym c.before.before.before.has2.ensures ∙ c.before.before.if2.true)).0)
+    let g = c.args in
+    (held g.map.ram.0 g.nr g.a.0 (sym c.has-2.ensures ∙ c.if-has-2.true)).0)
     (λ c.
     let t = c.before.before in
-    rw (sym t.before.before.before.has.ensures ∙ t.before.before.if1.false, sym t.before.has2.ensures ∙ t.if2.true))
-    (λ c. rw (sym c.before.before.before.has.ensures ∙ c.before.before.if1.false, sym c.before.has2.ensures ∙ c.if2.false)))
+    rw (sym t.has.ensures ∙ t.if-has.false, sym t.has-2.ensures ∙ t.if-has-2.true))
+    (λ c. rw (sym c.has.ensures ∙ c.if-has.false, sym c.has-2.ensures ∙ c.if-has-2.false)))

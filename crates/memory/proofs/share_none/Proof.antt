@@ -8,5 +8,5 @@ pub share_none_spec : {M : Type 1} → statement M
 unfolding share_none
 share_none_spec =
     tie.close (tie.spec (λ c κs. tt)
-    (λ c. rw (sym c.before.before2.ensures ∙ c.if1.true)) (λ c κs. tt)
-    (λ c. rw (c.before3.ensures, sym c.before.before.before2.ensures ∙ c.before.if1.false)))
+    (λ c. rw (sym c.before-2.ensures ∙ c.if-before.true)) (λ c κs. tt)
+    (λ c. rw (c.before-3.ensures, sym c.before-2.ensures ∙ c.if-before.false)))

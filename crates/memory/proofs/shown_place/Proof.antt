@@ -7,5 +7,5 @@ use Rattle.memory.proofs.shown_place.Tie as tie
 pub shown_place_spec : {M : Type 1} → statement M
 shown_place_spec = tie.close (tie.spec
     (λ c κs. search rules) (λ c κs. search rules)
-    (λ c. c.locate.ensures ∙ sym (shown_accepted _ _ (sym c.before.before.areas-accepted.ensures ∙ c.before.if1.true)))
-    (λ c. sym (shown_refused _ _ (sym c.before.areas-accepted.ensures ∙ c.if1.false))))
+    (λ c. c.locate.ensures ∙ sym (shown_accepted _ _ (sym c.areas_accepted.ensures ∙ c.if-areas_accepted.true)))
+    (λ c. sym (shown_refused _ _ (sym c.areas_accepted.ensures ∙ c.if-areas_accepted.false))))

@@ -6,5 +6,5 @@ use Rattle.words.proofs.replicate.Tie as tie
 
 pub replicate_spec : {M : Type 1} → statement M
 replicate_spec =
-    tie.close (tie.spec (λ c. rw c.if1.true) (λ c κs. tt) (λ c κs. tt) (λ c. search rules) (λ c. search rules) (λ c. search rules)
-    (λ c. rw (c.before.before.if1.false, c.plain.ensures, c.before.of.ensures)))
+    tie.close (tie.spec (λ c. rw c.if-word.true) (λ c κs. tt) (λ c κs. tt) (λ c. search rules) (λ c. search rules) (λ c. search rules)
+    (λ c. rw (c.before.before.if-word.false, c.plain.ensures, c.before.of.ensures)))

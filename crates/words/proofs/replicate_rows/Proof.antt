@@ -20,7 +20,7 @@ pub replicate_rows_spec : {M : Type 1} → statement M
 unfolding read_of families
 replicate_rows_spec =
     tie.close (tie.spec (λ c κs. tt)
-    (λ c. row_is 0 c.before.before.args.word (lit< tt) (rw (eq-eqb _ 0 c.before.before.requires, c.before.if1.true)) c.replicate.ensures) (λ c κs. tt)
-    (λ c. row_is 1 c.before.before.before.args.word (lit< tt) (rw (eq-eqb _ 0 c.before.before.before.requires, c.before.if2.true)) c.replicate2.ensures)
+    (λ c. row_is 0 c.before.before.args.word (lit< tt) (rw (eq-eqb _ 0 c.before.before.requires, c.before.if-bits_29_23-word.true)) c.replicate.ensures) (λ c κs. tt)
+    (λ c. row_is 1 c.before.before.before.args.word (lit< tt) (rw (eq-eqb _ 0 c.before.before.before.requires, c.before.if-bits_29_23-word-2.true)) c.replicate-then-bits_29_23-word-2.ensures)
     (λ c. let g = c.before.before in
-    rw (eq-eqb _ 0 g.requires, c.before.if1.false, c.if2.false, other _ 0b1000010 g.requires refl, other _ 0b1010010 g.requires refl)))
+    rw (eq-eqb _ 0 g.requires, c.before.if-bits_29_23-word.false, c.if-bits_29_23-word-2.false, other _ 0b1000010 g.requires refl, other _ 0b1010010 g.requires refl)))

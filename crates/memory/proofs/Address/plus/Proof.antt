@@ -4,4 +4,4 @@ use Rattle.memory.proofs.Address.plus.Statement.{statement}
 use Rattle.memory.proofs.Address.plus.Tie as tie
 
 pub plus_spec : {M : Type 1} → statement M
-plus_spec = tie.close (tie.spec (λ c κs. search rules) (λ c. c.wrapping-add-u64.ensures))
+plus_spec = tie.close (tie.spec (λ c κs. search rules) (λ c. c.wrapping_add_u64.ensures))

@@ -13,7 +13,7 @@ of_spec =
     (tie.spec (λ c. sym (dtype_past c.before.args.field (omega arith)))
     (λ c κs. search rules) (λ c κs. search rules)
     (λ c. let field = c.before.before.before.before.args.field in
-    rw (dtype_rule field (omega arith), le-leb _ _ c.before.before.if2.true, c.before.of.ensures, c.of2.ensures))
+    rw (dtype_rule field (omega arith), le-leb _ _ c.before.before.if-high-low.true, c.before.of.ensures, c.of-then-high-low.ensures))
     (λ c κs. search rules) (λ c. search rules) (λ c κs. search rules)
     (λ c. let field = c.before.before.before.before.args.field in
-    rw (dtype_rule field (omega arith), lt-leb _ _ c.before.before.if2.false, c.before.of3.ensures, c.of4.ensures)))
+    rw (dtype_rule field (omega arith), lt-leb _ _ c.before.before.if-high-low.false, c.before.of-2.ensures, c.of-3.ensures)))
