@@ -5,15 +5,15 @@ use borrow.Author.Tests.{eqb-true}
 use Rattle.lanes.proofs.as_asked.Statement.{statement}
 use Rattle.lanes.proofs.as_asked.Tie as tie
 
-cast_single : tie.Need-overflow-cast-single
+cast_single : tie.Need-overflow_cast-bits
 cast_single c =
     let s = c.before.before in
-    let width : s.args.width ≡ 32 = eqb-true s.args.width 32 (rw c.enum-told2.given.1 at s.requires.fits) in
+    let width : s.args.width ≡ 32 = eqb-true s.args.width 32 (rw c.in-Single.is at s.requires.fits) in
     record { fits = rw width at s.requires.below }
 
 pub as_asked_spec : {M : Type 1} → statement M
 as_asked_spec =
     tie.close (tie.spec (λ c. search rules) (λ c. search rules)
-    cast_single (λ c κs. tt) (λ c. search rules) (λ c κs. tt) (λ c. rw c.enum_told.given.1)
-    (λ c. rw c.before.enum-told2.given.1 c.single.ensures)
-    (λ c. rw c.before.enum-told3.given.1 c.double.ensures))
+    cast_single (λ c κs. tt) (λ c. search rules) (λ c κs. tt) (λ c. rw c.in-Whole.is)
+    (λ c. rw c.in-Single.is c.single.ensures)
+    (λ c. rw c.in-Double.is c.double.ensures))

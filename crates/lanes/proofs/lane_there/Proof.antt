@@ -17,13 +17,13 @@ lane_there_spec =
     tie.close (tie.spec (λ c κs. search rules)
     (λ c κs. search rules)
     (λ c.
-    let vl = c.before.before.before.args.vl in
-    let largest : vl ≤ 2048 = ((length_exactly vl).0 (sym c.before.before.allowed.ensures ∙ and_left _ _ c.if1.true)).largest in
+    let vl = c.args.vl in
+    let largest : vl ≤ 2048 = ((length_exactly vl).0 (sym c.allowed.ensures ∙ and_left _ _ c.if-allowed-width_fits.true)).largest in
     record { fits = omega arith })
     (λ c.
-    let a = c.before.before.before.args in
-    let fits : width_fits a.kind a.width ≡ true = sym c.before.width-fits.ensures
-    ∙ and_right c.before.before.allowed.result _ c.if1.true in
+    let a = c.args in
+    let fits : width_fits a.kind a.width ≡ true = sym c.width_fits.ensures
+    ∙ and_right c.allowed.result _ c.if-allowed-width_fits.true in
     (in_bytes a.kind a.width ((width_exactly a.kind a.width).0 fits)).some)
-    (λ c. rw (← c.before.before.allowed.ensures, ← c.before.width-fits.ensures, c.if1.true))
-    (λ c. rw (← c.before.before.allowed.ensures, ← c.before.width-fits.ensures, c.if1.false)))
+    (λ c. rw (← c.allowed.ensures, ← c.width_fits.ensures, c.if-allowed-width_fits.true))
+    (λ c. rw (← c.allowed.ensures, ← c.width_fits.ensures, c.if-allowed-width_fits.false)))

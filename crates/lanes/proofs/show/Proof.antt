@@ -12,19 +12,19 @@ use Rattle.lanes.proofs.show.Statement.{statement}
 use Rattle.lanes.proofs.show.Tie as tie
 
 -- every file that is lent is one of bytes
-lent : (c : tie.After-shared-slice-known) → EachBelow 256 c.before.args.z.now
-lent c k = omega (arith, c.shared-slice-known.given k)
+lent : (c : tie.After-shared_slice_known-1) → EachBelow 256 c.args.z.now
+lent c k = omega (arith, c.shared_slice_known-1.given k)
 
-is_there : (c : tie.Then1) → let a = c.before.before.before.args in There a.vl a.z.now a.register a.kind a.width a.lane
-is_there c = (there_exactly _ _ _ _ _ _).0 (sym c.before.lane-there.ensures ∙ c.if1.true)
+is_there : (c : tie.Then-lane_there) → let a = c.args in There a.vl a.z.now a.register a.kind a.width a.lane
+is_there c = (there_exactly _ _ _ _ _ _).0 (sym c.lane_there.ensures ∙ c.if-lane_there.true)
 
 -- the number of a lane's bytes: no lane has more than eight
-gathered : (c : tie.Then1) (v at : ℕ) → v ≡ bytes_at c.before.before.before.args.z.now at (min (c.before.before.before.args.width / 8) 8)
-    → v ≡ bytes_at c.before.before.before.args.z.now at (c.before.before.before.args.width / 8)
+gathered : (c : tie.Then-lane_there) (v at : ℕ) → v ≡ bytes_at c.args.z.now at (min (c.args.width / 8) 8)
+    → v ≡ bytes_at c.args.z.now at (c.args.width / 8)
 gathered c v at e =
     let few = (bytes (is_there c)).word in
-    let all : min (c.before.before.before.args.width / 8) 8 ≡ c.before.before.before.args.width / 8 = omega arith in
-    e ∙ ap (bytes_at c.before.before.before.args.z.now at) all
+    let all : min (c.args.width / 8) 8 ≡ c.args.width / 8 = omega arith in
+    e ∙ ap (bytes_at c.args.z.now at) all
 
 pub show_spec : {M : Type 1} → statement M
 unfolding shown_of
@@ -32,14 +32,14 @@ show_spec =
     tie.close (tie.spec (λ c κs. tt)
     (λ c κs. in_word (is_there c)) (λ c. search rules) (λ c κs. tt)
     (λ c κs.
-    rw (gathered c.before.before _ _ c.number.ensures.0, c.before.place.ensures)
+    rw (gathered c.before.before _ _ c.number.ensures.0, c.place-at.ensures)
     (lane_fitting (is_there c.before.before) (lent c.before.before.before.before)))
     (λ c.
     let t = c.before.before.before in
     record {
       came = lent t.before.before;
       shown =
-          rw (sym t.before.lane-there.ensures ∙ t.if1.true)
-          (rw (← c.before.before.place.ensures, ← gathered t _ _ c.before.number.ensures.0) c.as_asked.ensures);
+          rw (sym t.lane_there.ensures ∙ t.if-lane_there.true)
+          (rw (← c.place-at.ensures, ← gathered t _ _ c.number.ensures.0) c.as_asked.ensures);
     })
-    (λ c. record { came = lent c.before.before; shown = rw (sym c.before.lane-there.ensures ∙ c.if1.false) }))
+    (λ c. record { came = lent c.before.before; shown = rw (sym c.lane_there.ensures ∙ c.if-lane_there.false) }))

@@ -6,5 +6,5 @@ use Rattle.lanes.proofs.width_fits.Tie as tie
 pub width_fits_spec : {M : Type 1} → statement M
 width_fits_spec =
     tie.close (tie.spec (λ c. search rules) (λ c. search rules) (λ c. search rules)
-    (λ c. rw c.enum_told.given.1) (λ c. rw c.enum-told2.given.1)
-    (λ c. rw c.enum-told3.given.1))
+    (λ c. rw c.in-Whole.is) (λ c. rw c.in-Single.is)
+    (λ c. rw c.in-Double.is))

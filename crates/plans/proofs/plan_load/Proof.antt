@@ -9,20 +9,20 @@ pub plan_load_spec : {M : Type 1} → statement M
 unfolding planned_load refusals
 plan_load_spec =
     tie.close (tie.spec (λ c κs. tt)
-    (λ c. rw (rw c.before.before.is_IsWide.ensures at c.if1.true)) (λ c κs. tt)
+    (λ c. rw (rw c.is_IsWide.ensures at c.if-is_wide-settings.true)) (λ c κs. tt)
     (λ c.
     let t = c.before.before in
-    rw (rw t.before.before.is_IsWide.ensures at t.if1.false, sym c.before.switched_off.ensures ∙ c.if2.true))
+    rw (rw t.is_IsWide.ensures at t.if-is_wide-settings.false, sym c.switched_off.ensures ∙ c.if-switched_off.true))
     (λ c κs. tt)
     (λ c.
     let s = c.before.before.before in
     let t = s.before.before in
-    rw (rw t.before.before.is_IsWide.ensures at t.if1.false, sym s.before.switched_off.ensures ∙ s.if2.false)
-    (rw (rw c.before.before.is-wide2.ensures at c.if3.true)))
-    (λ c κs. c.before.before.before.before.before.before.before.before.before.requires)
+    rw (rw t.is_IsWide.ensures at t.if-is_wide-settings.false, sym s.switched_off.ensures ∙ s.if-switched_off.false)
+    (rw (rw c.is_wide-2.ensures at c.if-is_wide-settings-2.true)))
+    (λ c κs. c.requires)
     (λ c.
     let s = c.before.before.before.before in
     let t = s.before.before in
-    ap Go c.plan-of.ensures
-    ∙ rw (rw t.before.before.is_IsWide.ensures at t.if1.false, sym s.before.switched_off.ensures ∙ s.if2.false)
-    (rw (rw c.before.before.before.is-wide2.ensures at c.before.if3.false))))
+    ap Go c.plan_of.ensures
+    ∙ rw (rw t.is_IsWide.ensures at t.if-is_wide-settings.false, sym s.switched_off.ensures ∙ s.if-switched_off.false)
+    (rw (rw c.is_wide-2.ensures at c.if-is_wide-settings-2.false))))

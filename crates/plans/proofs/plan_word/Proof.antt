@@ -9,10 +9,10 @@ use Rattle.plans.proofs.plan_word.Tie as tie
 pub plan_word_spec : {M : Type 1} → statement M
 unfolding planned_of
 plan_word_spec =
-    tie.close (tie.spec (λ c κs. tt) (λ c. c.match.keys1) (λ c. c.match.keys2) (λ c. c.match.keys3)
+    tie.close (tie.spec (λ c κs. tt) (λ c. c.in-Outside-1.keys1) (λ c. c.in-Undefined-1.keys2) (λ c. c.in-Is-1.keys3)
     (λ c κs.
-    let g = c.before.before.before.before.before in
-    (subst InRange (sym c.before.before.before.read.ensures ∙ c.before.insn.given.1) (in_range g.args.word), g.requires))
-    (λ c. rw (sym c.before.before.read.ensures ∙ c.enum_told.given.1))
-    (λ c. rw (sym c.before.before.read.ensures ∙ c.enum-told2.given.1))
-    (λ c. c.plan-load.ensures ∙ rw (sym c.before.before.before.before.read.ensures ∙ c.before.before.insn.given.1)))
+    let g = c.before.before.before in
+    (subst InRange (sym c.read.ensures ∙ c.in-Is.is) (in_range g.args.word), g.requires))
+    (λ c. rw (sym c.read.ensures ∙ c.in-Outside.is))
+    (λ c. rw (sym c.read.ensures ∙ c.in-Undefined.is))
+    (λ c. c.plan_load.ensures ∙ rw (sym c.read.ensures ∙ c.in-Is.is)))

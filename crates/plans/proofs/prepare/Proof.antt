@@ -9,6 +9,6 @@ pub prepare_spec : {M : Type 1} → statement M
 unfolding planned_for
 prepare_spec =
     tie.close (tie.spec (λ c κs. tt)
-    (λ c κs. ((length_exactly _).0 (sym c.before.allowed.ensures ∙ c.if1.true)).largest)
-    (λ c. c.plan-word.ensures ∙ rw (sym c.before.before.allowed.ensures ∙ c.before.if1.true))
-    (λ c. rw (sym c.before.allowed.ensures ∙ c.if1.false)))
+    (λ c κs. ((length_exactly _).0 (sym c.allowed.ensures ∙ c.if-allowed.true)).largest)
+    (λ c. c.plan_word.ensures ∙ rw (sym c.allowed.ensures ∙ c.if-allowed.true))
+    (λ c. rw (sym c.allowed.ensures ∙ c.if-allowed.false)))

@@ -4,6 +4,6 @@ use Rattle.plans.proofs.switched_off.Tie as tie
 
 pub switched_off_spec : {M : Type 1} → statement M
 switched_off_spec =
-    tie.close (tie.spec (λ c. c.match.keys1) (λ c. c.match.keys2) (λ c. c.match.keys3) (λ c. c.match.keys4)
-    (λ c. rw c.enum_told.given.1) (λ c. rw c.enum-told2.given.1) (λ c. rw c.enum-told3.given.1)
-    (λ c. rw c.enum-told4.given.1))
+    tie.close (tie.spec (λ c. c.in-Replicate-1.keys1) (λ c. c.in-ByElement-1.keys2) (λ c. c.in-Contiguous-1.keys3) (λ c. c.in-Block-1.keys4)
+    (λ c. rw c.in-Replicate.is) (λ c. rw c.in-ByElement.is) (λ c. rw c.in-Contiguous.is)
+    (λ c. rw c.in-Block.is))

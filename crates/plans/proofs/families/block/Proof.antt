@@ -9,18 +9,18 @@ use Rattle.plans.proofs.Bounds.{block_few}
 use Rattle.plans.proofs.families.block.Statement.{statement}
 use Rattle.plans.proofs.families.block.Tie as tie
 
-few : (c : tie.After-bytes) → (16 ≤ c.before.block_bytes_lem.result) × (c.before.block_bytes_lem.result ≤ 32)
-few c = rw c.before.block_bytes_lem.ensures (block_few c.before.before.before.before.args.wide)
+few : (c : tie.After-bytes) → (16 ≤ c.block_bytes_lem.result) × (c.block_bytes_lem.result ≤ 32)
+few c = rw c.block_bytes_lem.ensures (block_few c.args.wide)
 
 pub block_spec : {M : Type 1} → statement M
 unfolding spread_of
 block_spec =
     tie.close (tie.spec (λ c κs. tt) (λ c κs. tt)
-    (λ c. rw c.bytes.ensures (bytes_some c.before.before.before.before.args.insn.element.lane))
+    (λ c. rw c.bytes.ensures (bytes_some c.args.insn.element.lane))
     (λ c. record { fits = omega (arith, few c) }) (λ c. omega (arith, few c))
     (λ c.
     let g = c.before.before.before.before in
-    record { fits = omega (arith, blocks_few g.args.vl c.before.block_bytes_lem.result c.bytes.result g.requires.1) })
-    (λ c κs. (c.before.before.before.before.requires.0, omega (arith, few c))) (λ c κs. tt) (λ c κs. tt)
-    (λ c. c.plan-with.ensures
-    ∙ rw (c.before.lanes_in.ensures, c.before.before.start.ensures, c.before.before.before.bytes.ensures, c.before.before.before.before.block_bytes_lem.ensures)))
+    record { fits = omega (arith, blocks_few g.args.vl c.block_bytes_lem.result c.bytes.result g.requires.1) })
+    (λ c κs. (c.requires.0, omega (arith, few c))) (λ c κs. tt) (λ c κs. tt)
+    (λ c. c.plan_with.ensures
+    ∙ rw (c.lanes_in-consulted.ensures, c.start-first.ensures, c.bytes.ensures, c.block_bytes_lem.ensures)))

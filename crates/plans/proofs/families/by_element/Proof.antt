@@ -9,6 +9,6 @@ pub by_element_spec : {M : Type 1} → statement M
 unfolding spread_of
 by_element_spec =
     tie.close (tie.spec (λ c κs. tt) (λ c κs. tt) (λ c κs. tt) (λ c κs. tt) (λ c κs. tt)
-    (λ c. c.plan-with.ensures
-    ∙ rw (c.before.plus.ensures, c.before.before.times.ensures, c.before.before.before.scalar.ensures)
-    (rw (c.before.before.before.before.lanes_in.ensures, wrap_once))))
+    (λ c. c.plan_with.ensures
+    ∙ rw (c.plus-start.ensures, c.times.ensures, c.scalar.ensures)
+    (rw (c.lanes_in-n.ensures, wrap_once))))

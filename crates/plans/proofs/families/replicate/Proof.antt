@@ -9,16 +9,16 @@ use Rattle.ground.proofs.Sizes.{bytes_some}
 use Rattle.plans.proofs.families.replicate.Statement.{statement}
 use Rattle.plans.proofs.families.replicate.Tie as tie
 
-chosen : (c : tie.Joined1) → c.if1.bytes ≡ (if eqb c.before.before.before.args.q 1 then 16 else 8)
-chosen c = ⊎_elim (λ w. w.1 ∙ rw (eq-eqb _ _ w.0.taken)) (λ w. w.1 ∙ rw (ne_eqb _ _ w.0.left)) c.if1.branch
+chosen : (c : tie.Joined-q-eq1) → c.if-q-eq1.bytes ≡ (if eqb c.args.q 1 then 16 else 8)
+chosen c = ⊎_elim (λ w. w.1 ∙ rw (eq-eqb _ _ w.0.taken)) (λ w. w.1 ∙ rw (ne_eqb _ _ w.0.left)) c.if-q-eq1.branch
 
 pub replicate_spec : {M : Type 1} → statement M
 replicate_spec =
     tie.close (tie.spec (λ c κs. tt)
-    (λ c. rw c.before.bytes.ensures (bytes_some c.before.before.before.before.before.args.insn.element.lane))
-    (λ c κs. tt) (λ c. search rules) (λ c κs. c.before.before.before.before.before.before.before.requires) (λ c κs. tt) (λ c κs. tt)
+    (λ c. rw c.bytes.ensures (bytes_some c.args.insn.element.lane))
+    (λ c κs. tt) (λ c. search rules) (λ c κs. c.requires) (λ c κs. tt) (λ c κs. tt)
     (λ c.
     let j = c.before.before.before.before.before.before in
-    c.plan-with.ensures
-    ∙ rw (chosen j.before, j.bytes.ensures, c.before.before.before.before.scalar.ensures)
-    (rw (c.before.before.amount.ensures, c.before.writes.ensures))))
+    c.plan_with.ensures
+    ∙ rw (chosen j.before, j.bytes.ensures, c.scalar.ensures)
+    (rw (c.amount-added.ensures, c.writes.ensures))))

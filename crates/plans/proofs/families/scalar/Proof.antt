@@ -8,4 +8,4 @@ use Rattle.plans.proofs.families.scalar.Tie as tie
 pub scalar_spec : {M : Type 1} → statement M
 scalar_spec =
     tie.close (tie.spec (λ c. search rules) (λ c. search rules) (λ c. search rules)
-    (λ c. sym (get_or-eq_default c.before.args.x.now 0 c.if1.false)))
+    (λ c. sym (get_or-eq_default c.args.x.now 0 c.if-at-x.false)))

@@ -9,12 +9,12 @@ use Rattle.steps.specs.Terms.{signed4}
 use Rattle.plans.proofs.families.signed.Statement.{statement}
 use Rattle.plans.proofs.families.signed.Tie as tie
 
-sub_result : tie.Need-overflow-sub-result
-sub_result c = rw (to_z_pos w64 {n = c.before.args.field} (omega arith), lt-ltb _ 16 c.before.requires) (record { sfits = omega arith })
+sub_result : tie.Need-overflow_sub-result
+sub_result c = rw (to_z_pos w64 {n = c.args.field} (omega arith), lt-ltb _ 16 c.requires) (record { sfits = omega arith })
 
 pub signed_spec : {M : Type 1} → statement M
 unfolding signed4
 signed_spec =
     tie.close (tie.spec (λ c. search rules)
-    (λ c. rw (to_z_pos w64 {n = c.before.args.field} (omega arith), lt-ltb _ 8 c.if1.true)) (λ c. search rules) sub_result
-    (λ c. to_z-of_z (sub_result c) ∙ rw (to_z_pos w64 {n = c.before.args.field} (omega arith), le-ltb _ 8 c.if1.false)))
+    (λ c. rw (to_z_pos w64 {n = c.args.field} (omega arith), lt-ltb _ 8 c.if-field-lt8.true)) (λ c. search rules) sub_result
+    (λ c. to_z-of_z (sub_result c) ∙ rw (to_z_pos w64 {n = c.args.field} (omega arith), le-ltb _ 8 c.if-field-lt8.false)))
