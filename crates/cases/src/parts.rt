@@ -39,7 +39,7 @@ fn stepped(z: &mut [u8], x: &mut [u64], s: &[u8], case: Case) -> StepResult
     let ram_at = flash_rights_at + case.flash_rights;
     let ram_rights_at = ram_at + case.ram;
     let end = ram_rights_at + case.ram_rights;
-    bytes::copy(&s[vectors_at..predicates_at], z);
+    z.copy_from_slice(&s[vectors_at..predicates_at]);
     numbers(x, s, scalars_at);
     bench::step(
         z,

@@ -41,7 +41,7 @@ impl Text {
         let mut bytes = self.bytes;
         let k = least(s.len(), 128 - n);
         let end = n + k;
-        bytes::copy(&s[..k], &mut bytes[n..end]);
+        bytes[n..end].copy_from_slice(&s[..k]);
         Text { bytes, n: end }
     }
 

@@ -7,7 +7,7 @@ use Rattle.lanes.proofs.as_asked.Tie as tie
 
 cast_single : tie.Need-overflow_cast-bits
 cast_single c =
-    let s = c.before.before in
+    let s = c.before in
     let width : s.args.width ≡ 32 = eqb-true s.args.width 32 (rw c.in-Single.is at s.requires.fits) in
     record { fits = rw width at s.requires.below }
 

@@ -11,7 +11,7 @@ unfolding planned_of
 plan_word_spec =
     tie.close (tie.spec (λ c κs. tt) (λ c. c.in-Outside-1.keys1) (λ c. c.in-Undefined-1.keys2) (λ c. c.in-Is-1.keys3)
     (λ c κs.
-    let g = c.before.before.before in
+    let g = c.before in
     (subst InRange (sym c.read.ensures ∙ c.in-Is.is) (in_range g.args.word), g.requires))
     (λ c. rw (sym c.read.ensures ∙ c.in-Outside.is))
     (λ c. rw (sym c.read.ensures ∙ c.in-Undefined.is))

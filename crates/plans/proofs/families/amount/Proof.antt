@@ -10,7 +10,7 @@ use Rattle.plans.proofs.families.amount.Tie as tie
 -- four reads of 8 bytes at most
 few : tie.Need-overflow_mul-result
 few c =
-    let g = c.before.before.before.before.before.before in
+    let g = c.before.before.before.before in
     rw c.bytes.ensures (record { fits = omega (arith, g.requires, mul-le-mul g.requires (bytes_few g.args.size)) })
 
 pub amount_spec : {M : Type 1} → statement M

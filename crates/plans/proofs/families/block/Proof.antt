@@ -9,8 +9,8 @@ use Rattle.plans.proofs.Bounds.{block_few}
 use Rattle.plans.proofs.families.block.Statement.{statement}
 use Rattle.plans.proofs.families.block.Tie as tie
 
-few : (c : tie.After-bytes) → (16 ≤ c.block_bytes_lem.result) × (c.block_bytes_lem.result ≤ 32)
-few c = rw c.block_bytes_lem.ensures (block_few c.args.wide)
+few : (c : tie.After-bytes) → (16 ≤ c.block_bytes-bytes.result) × (c.block_bytes-bytes.result ≤ 32)
+few c = rw c.block_bytes-bytes.ensures (block_few c.args.wide)
 
 pub block_spec : {M : Type 1} → statement M
 unfolding spread_of
@@ -20,7 +20,7 @@ block_spec =
     (λ c. record { fits = omega (arith, few c) }) (λ c. omega (arith, few c))
     (λ c.
     let g = c.before.before.before.before in
-    record { fits = omega (arith, blocks_few g.args.vl c.block_bytes_lem.result c.bytes.result g.requires.1) })
+    record { fits = omega (arith, blocks_few g.args.vl c.block_bytes-bytes.result c.bytes.result g.requires.1) })
     (λ c κs. (c.requires.0, omega (arith, few c))) (λ c κs. tt) (λ c κs. tt)
     (λ c. c.plan_with.ensures
-    ∙ rw (c.lanes_in-consulted.ensures, c.start-first.ensures, c.bytes.ensures, c.block_bytes_lem.ensures)))
+    ∙ rw (c.lanes_in-consulted.ensures, c.start-first.ensures, c.bytes.ensures, c.block_bytes-bytes.ensures)))

@@ -10,12 +10,12 @@ plan_of_spec =
     tie.close (tie.spec (λ c. c.in-Replicate-1.keys1)
     (λ c κs. c.requires.0.few) (λ c. c.in-ByElement-1.keys2) (λ c κs. tt) (λ c. c.in-Contiguous-1.keys3)
     (λ c κs.
-    let g = c.before.before in
+    let g = c in
     let h = rw c.in-Contiguous.is at g.requires.0.shape in
     (h.0, (g.requires.0.narrower, g.requires.1)))
     (λ c. c.in-Block-1.keys4)
     (λ c κs.
-    let g = c.before.before in
+    let g = c in
     let h = rw c.in-Block.is at g.requires.0.shape in
     (h.0, g.requires.1))
     (λ c. c.replicate.ensures ∙ rw c.in-Replicate.is)

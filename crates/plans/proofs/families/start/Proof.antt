@@ -16,10 +16,8 @@ start_spec =
     (λ c. rw c.signed.ensures (product_fits _ _ (field c.before) c.requires.1))
     (λ c κs. tt) (λ c. c.in-Reg-1.keys2) (λ c κs. tt) (λ c κs. tt) (λ c κs. tt)
     (λ c.
-    let k = c.offset-1 in
-    let b = c.before.before.before in
-    c.moved.ensures ∙ rw (k.given.1, b.scalar.ensures, c.signed.ensures, product _ _ (field c.before.before) b.requires.1))
+    let b = c.before.before in
+    c.moved.ensures ∙ rw (c.in-Imm.is, b.scalar.ensures, c.signed.ensures, product _ _ (field c.before.before) b.requires.1))
     (λ c.
-    let k = c.offset-in-Reg-1 in
-    let b = c.before.before.before.before in
-    c.plus.ensures ∙ rw (k.given.1, b.scalar.ensures, c.times.ensures, c.scalar-in-Reg.ensures) (wrap_once _ _)))
+    let b = c.before.before.before in
+    c.plus.ensures ∙ rw (c.in-Reg.is, b.scalar.ensures, c.times.ensures, c.scalar-in-Reg.ensures) (wrap_once _ _)))
