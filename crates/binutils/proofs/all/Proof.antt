@@ -3,10 +3,10 @@ use Rattle.std.proofs.Common.{rules}
 use Rattle.binutils.proofs.all.Statement.{statement}
 use Rattle.binutils.proofs.all.Tie as tie
 
-abbrev invariant-loop : tie.invariant-loop
+abbrev invariant-loop : tie.invariant-loop-turns
 invariant-loop run₀ turns₀ run turns = Unit {0}
 
-abbrev decreases-loop : tie.decreases-loop
+abbrev decreases-loop : tie.decreases-loop-turns
 decreases-loop run₀ turns₀ run turns = turns
 
 pub all_spec : {M : Type 1} → statement M

@@ -3,10 +3,10 @@ use Rattle.std.proofs.Common.{◌≡◌, length, refl, arith, rules}
 use Rattle.qemu.proofs.all_steps.Statement.{statement}
 use Rattle.qemu.proofs.all_steps.Tie as tie
 
-abbrev invariant-loop : tie.invariant-loop
+abbrev invariant-loop : tie.invariant-loop-turns
 invariant-loop stream₀ out₀ progress₀ turns₀ stream out progress turns = (length stream ≡ length stream₀) × (length out ≡ length out₀)
 
-abbrev decreases-loop : tie.decreases-loop
+abbrev decreases-loop : tie.decreases-loop-turns
 decreases-loop stream₀ out₀ progress₀ turns₀ stream out progress turns = turns
 
 pub all_steps_spec : {M : Type 1} → statement M

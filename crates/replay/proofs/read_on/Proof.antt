@@ -3,10 +3,10 @@ use Rattle.std.proofs.Common.{◌≡◌, length, refl, arith, rules}
 use Rattle.replay.proofs.read_on.Statement.{statement}
 use Rattle.replay.proofs.read_on.Tie as tie
 
-abbrev invariant-loop : tie.invariant-loop
+abbrev invariant-loop : tie.invariant-loop-turns
 invariant-loop stream₀ from to n₀ turns₀ stream n turns = length stream ≡ length stream₀
 
-abbrev decreases-loop : tie.decreases-loop
+abbrev decreases-loop : tie.decreases-loop-turns
 decreases-loop stream₀ from to n₀ turns₀ stream n turns = turns
 
 pub read_on_spec : {M : Type 1} → statement M

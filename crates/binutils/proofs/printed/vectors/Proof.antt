@@ -3,10 +3,10 @@ use Rattle.std.proofs.Common.{◌-◌, rules}
 use Rattle.binutils.proofs.printed.vectors.Statement.{statement}
 use Rattle.binutils.proofs.printed.vectors.Tie as tie
 
-abbrev invariant-loop : tie.invariant-loop
+abbrev invariant-loop : tie.invariant-loop-i
 invariant-loop first registers lanes k t₀ end i₀ t12 t i = Unit {0}
 
-abbrev decreases-loop : tie.decreases-loop
+abbrev decreases-loop : tie.decreases-loop-i
 decreases-loop first registers lanes k t₀ end i₀ t12 t i = registers - i
 
 pub vectors_spec : {M : Type 1} → statement M
