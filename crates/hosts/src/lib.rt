@@ -33,7 +33,7 @@ fn numbered(res: StepResult) -> StepNumbers
     }
 }
 
-// One step. What it may write is lent first, and RAM, to be read, beside that; each slice is a pointer and a length.
+// One step. What it may write is lent first, and RAM, to be read, beside that. The crate hosts_c exports it to C under this name.
 pub fn kjolvast_step<'a>(
     z: &mut [u8],
     x: &mut [u64],
