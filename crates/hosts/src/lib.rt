@@ -34,8 +34,7 @@ fn numbered(res: StepResult) -> StepNumbers
 }
 
 // One step. What it may write is lent first, and RAM, to be read, beside that; each slice is a pointer and a length.
-#[unsafe(no_mangle)]
-pub extern "C" fn kjolvast_step<'a>(
+pub fn kjolvast_step<'a>(
     z: &mut [u8],
     x: &mut [u64],
     ram: &'a [u8],

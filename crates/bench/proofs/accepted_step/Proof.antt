@@ -9,20 +9,14 @@ use Rattle.bench.proofs.accepted_step.Tie as tie
 
 pub accepted_step_spec : {M : Type 1} → statement M
 accepted_step_spec =
-    tie.close (tie.spec (λ c κs. tt) (λ c. c.match.keys1) (λ c κs. tt) (λ c. c.match.keys2)
+    tie.close (tie.spec (λ c κs. tt) (λ c. c.in-Stop-1.keys1) (λ c κs. tt) (λ c. c.in-Go-1.keys2)
     (λ c κs.
-    let g = c.before.before.before.before.before.before.before.before.before.before.before.before.before.before in
-    let a = (accepted_exactly _ _).0 g.requires in
-    let e = (prepares _ _ _ g.requires _ c.before.before.before.before.before.prepare.ensures ∙ c.before.before.before.plan.given.1) in
-    (g.requires, (planned_in_range _ _ a.allowed _ _ e, planned_shaped _ _ a.allowed _ _ e)))
+    let a = (accepted_exactly _ _).0 c.requires in
+    let e = (prepares _ _ _ c.requires _ c.prepare.ensures ∙ c.in-Go.is) in
+    (c.requires, (planned_in_range _ _ a.allowed _ _ e, planned_shaped _ _ a.allowed _ _ e)))
     (λ c. refl)
     (λ c.
-    let m = c.before.before.before.before in
-    let g = m.before.before.before.before.before.before.before.before.before in
-    stops _ _ _ _ (prepares _ _ _ g.requires _ m.prepare.ensures ∙ c.before.before.answer.given.1) _ c.ended.ensures)
-    (λ c. c.before.before.before.z.given) (λ c. c.before.x.given)
+    stops _ _ _ _ (prepares _ _ _ c.requires _ c.prepare.ensures ∙ c.in-Stop.is) _ c.ended.ensures)
+    (λ c. c.z-1.given) (λ c. c.x-1.given)
     (λ c.
-    let d = c.before.before.before.before in
-    let m = d.before.before.before.before.before.before in
-    let g = m.before.before.before.before.before.before.before.before.before in
-    goes _ _ _ _ (prepares _ _ _ g.requires _ m.prepare.ensures ∙ d.before.before.before.before.plan.given.1) _ _ d.carry-out.ensures))
+    goes _ _ _ _ (prepares _ _ _ c.requires _ c.prepare.ensures ∙ c.in-Go.is) _ _ c.carry_out.ensures))

@@ -9,13 +9,13 @@ use Rattle.cases.proofs.answer.Tie as tie
 pub answer_spec : {M : Type 1} → statement M
 unfolding after_case
 answer_spec =
-    tie.close (tie.spec (λ c κs. tt) (λ c. c.match.keys1) (λ c. c.match.keys2)
+    tie.close (tie.spec (λ c κs. tt) (λ c. c.in-Broken-1.keys1) (λ c. c.in-Begins-1.keys2)
     (λ c κs.
-    let t = c.before.before in
-    let e = sym t.before.before.head.ensures ∙ t.case.given.1 in
-    rw e at (within_limits t.before.before.before.before.before.args.s.now))
-    (λ c. let e = sym c.before.before.before.head.ensures ∙ c.before.why.given.1 in rw e) (λ c. search rules)
+    let t = c.before in
+    let e = sym t.head.ensures ∙ t.in-Begins.is in
+    rw e at (within_limits t.args.s.now))
+    (λ c. let e = sym c.head.ensures ∙ c.in-Broken.is in rw e) (λ c. search rules)
     (λ c.
-    let t = c.before.before.before.before.before in
-    let e = sym t.before.before.head.ensures ∙ t.case.given.1 in
-    rw e c.before.before.answered-case.ensures))
+    let t = c.before.before.before.before in
+    let e = sym t.head.ensures ∙ t.in-Begins.is in
+    rw e c.answered_case.ensures))

@@ -9,18 +9,18 @@ pub answered_case_spec : {M : Type 1} → statement M
 unfolding on_case
 answered_case_spec =
     tie.close (tie.spec (λ c κs. let g = c.before.before in (g.requires.1, g.requires.2))
-    (λ c. let size = c.before.before.before.before.requires.0 in rw (← size, lt-ltb _ _ c.if1.true))
+    (λ c. let size = c.requires.0 in rw (← size, lt-ltb _ _ c.if-s-whole.true))
     (λ c.
     let given = c.before.before in
-    let size = given.before.before.before.requires.0 in
-    rw (← size, le-ltb _ _ c.before.if1.false, ← given.outcome-bytes.ensures, lt-ltb _ _ c.if2.true))
+    let size = given.requires.0 in
+    rw (← size, le-ltb _ _ c.if-s-whole.false, ← given.outcome_bytes-given.ensures, lt-ltb _ _ c.if-out-given.true))
     (λ c κs.
     let given = c.before.before.before in
     let g = given.before.before.before in
-    (g.requires.2, rw (← given.outcome-bytes.ensures) c.before.if2.false, rw (← g.requires.0) c.before.before.if1.false))
+    (g.requires.2, rw (← given.outcome_bytes-given.ensures) c.if-out-given.false, rw (← g.requires.0) c.if-s-whole.false))
     (λ c. search rules)
     (λ c.
     let t = c.before.before.before.before in
     let given = t.before.before in
-    let size = given.before.before.before.requires.0 in
-    rw (← size, le-ltb _ _ t.before.if1.false, ← given.outcome-bytes.ensures, le-ltb _ _ t.if2.false, c.before.before.put-answer.ensures)))
+    let size = given.requires.0 in
+    rw (← size, le-ltb _ _ t.if-s-whole.false, ← given.outcome_bytes-given.ensures, le-ltb _ _ t.if-out-given.false, c.put_answer.ensures)))

@@ -9,4 +9,4 @@ pub outcome_bytes_spec : {M : Type 1} → statement M
 unfolding outcome_length
 outcome_bytes_spec =
     tie.close (tie.spec (λ c. search rules) (λ c. search rules) (λ c. search rules)
-    (λ c. rw (eq-eqb _ _ c.before.before.if1.true)) (λ c. rw (ne_eqb _ _ c.if1.false)))
+    (λ c. rw (eq-eqb _ _ c.if-case-eq0.true)) (λ c. rw (ne_eqb _ _ c.if-case-eq0.false)))

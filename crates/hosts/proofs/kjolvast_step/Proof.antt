@@ -6,4 +6,4 @@ use Rattle.hosts.proofs.kjolvast_step.Tie as tie
 pub kjolvast_step_spec : {M : Type 1} → statement M
 kjolvast_step_spec =
     tie.close (tie.spec (λ c κs. tt) (λ c κs. tt) (λ c. search rules) (λ c. search rules)
-    (λ c. record { result = _; told = c.numbered.ensures; step = c.before.before.before.before.before.step.ensures }))
+    (λ c. record { result = _; told = c.numbered.ensures; step = c.step-result.ensures }))

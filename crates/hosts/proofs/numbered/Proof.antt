@@ -5,4 +5,4 @@ use Rattle.hosts.proofs.numbered.Tie as tie
 pub numbered_spec : {M : Type 1} → statement M
 numbered_spec =
     tie.close (tie.spec (λ c κs. tt) (λ c κs. tt) (λ c κs. tt)
-    (λ c. rw (c.before.before.number.ensures, c.before.element.ensures, c.address.ensures)))
+    (λ c. rw (c.number.ensures, c.element.ensures, c.address.ensures)))

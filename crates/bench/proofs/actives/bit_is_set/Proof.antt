@@ -9,6 +9,6 @@ use Rattle.bench.proofs.actives.bit_is_set.Tie as tie
 pub bit_is_set_spec : {M : Type 1} → statement M
 unfolding bit_of
 bit_is_set_spec =
-    tie.close (tie.spec (λ c. search rules) (λ c. omega (arith, c.shared-slice-known.given (c.before.before.args.bit / 8))) (λ c. search rules)
+    tie.close (tie.spec (λ c. search rules) (λ c. omega (arith, c.shared_slice_known-1.given (c.args.bit / 8))) (λ c. search rules)
     (λ c. refl)
-    (λ c. simp (get_or-eq_default c.before.args.pred.now 0 c.if1.false, zero-div)))
+    (λ c. simp (get_or-eq_default c.args.pred.now 0 c.if-at-pred.false, zero-div)))

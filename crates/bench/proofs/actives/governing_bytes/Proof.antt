@@ -17,18 +17,18 @@ eight LaneBit h e = subst Governed e h
 eight ElementBit h e = subst Governed e h
 
 -- the register's place in its file
-module _ (c : tie.After-known-told) where
+module _ (c : tie.In-By) where
   abbrev s : tie.Start
-  s = c.before.before.before
+  s = c.before
 
   abbrev n : ℕ
   n = s.args.n
 
   abbrev at : ℕ
-  at = c.before.by.given.0.0 * n
+  at = c.in-By.g * n
 
-  low : c.before.by.given.0.0 < 8
-  low = eight s.args.plan.rule s.pre.0.governed c.before.by.given.1
+  low : c.in-By.g < 8
+  low = eight s.args.plan.rule s.requires.0.governed c.in-By.is
 
   fits : (at + n ≤ length s.args.p.now) × (length s.args.p.now ≤ 512)
   fits = (omega (arith, slot _ 8 n low), omega arith)
@@ -41,7 +41,7 @@ module _ (c : tie.After-known-told) where
 
 pub governing_bytes_spec : {M : Type 1} → statement M
 governing_bytes_spec =
-    tie.close (tie.spec (λ c. c.match.keys1) (λ c. search rules) (λ c. search rules) (λ c. search rules) (λ c. c.match.keys2)
+    tie.close (tie.spec (λ c. c.in-None-1.keys1) (λ c. search rules) (λ c. search rules) (λ c. search rules) (λ c. c.in-By-1.keys2)
     (λ c. Fits-below {n = 8} tt (le_of_lt (low c))) (λ c. small c (le-add_right _ _)) (λ c. small c (le_refl _))
-    (λ c. le-add_right _ _) (λ c. le-add_right _ _) (λ c. (fits c).0) (λ c. rw c.before.enum_told.given.1)
-    (λ c. rw (c.before.before.by.given.1, whole c.before)))
+    (λ c. le-add_right _ _) (λ c. le-add_right _ _) (λ c. (fits c).0) (λ c. rw c.in-None.is)
+    (λ c. rw (c.in-By.is, whole c.before)))

@@ -9,6 +9,6 @@ pub lane_active_spec : {M : Type 1} → statement M
 unfolding is_active
 lane_active_spec =
     tie.close (tie.spec (λ c κs. tt)
-    (λ c. rw c.bytes.ensures (omega (arith, small c.before.before.args.l c.before.before.args.plan.lane c.before.before.requires)))
+    (λ c. rw c.bytes.ensures (omega (arith, small c.args.l c.args.plan.lane c.requires)))
     (λ c κs. tt)
-    (λ c. c.bit-is-set.ensures ∙ rw c.before.bytes.ensures))
+    (λ c. c.bit_is_set.ensures ∙ rw c.bytes.ensures))

@@ -11,7 +11,7 @@ by g r = element_by r g.args.plan.elements g.args.j g.args.l
 pub lane_element_spec : {M : Type 1} → statement M
 unfolding lane_element
 lane_element_spec =
-    tie.close (tie.spec (λ c. c.match.keys1) (λ c. c.match.keys2) (λ c. c.match.keys3) (λ c. search rules)
-    (λ c. ap (by c.before.before) (sym c.enum_told.given.1))
-    (λ c. ap (by c.before.before) (sym c.enum-told2.given.1))
-    (λ c. ap (by c.before.before.before) (sym c.before.enum-told3.given.1)))
+    tie.close (tie.spec (λ c. c.in-Always-1.keys1) (λ c. c.in-LaneBit-1.keys2) (λ c. c.in-ElementBit-1.keys3) (λ c. search rules)
+    (λ c. ap (by c.before) (sym c.in-Always.is))
+    (λ c. ap (by c.before) (sym c.in-LaneBit.is))
+    (λ c. ap (by c.before.before) (sym c.in-ElementBit.is)))

@@ -11,8 +11,8 @@ by g r = may_take_by g.args.plan g.args.pred.now r g.args.l
 
 pub may_take_spec : {M : Type 1} → statement M
 may_take_spec =
-    tie.close (tie.spec (λ c. c.match.keys1) (λ c. c.match.keys2) (λ c κs. search rules) (λ c. c.match.keys3) (λ c. search rules)
-    (λ c κs. omega (arith, mod-le c.before.before.before.before.args.l c.before.before.before.before.args.plan.elements))
-    (λ c. ap (by c.before.before.before) (sym c.enum_told.given.1))
-    (λ c. c.lane_active.ensures ∙ ap (by c.before.before.before.before) (sym c.before.enum-told2.given.1))
-    (λ c. c.lane-active2.ensures ∙ ap (by c.before.before.before.before.before) (sym c.before.before.enum-told3.given.1)))
+    tie.close (tie.spec (λ c. c.in-Always-1.keys1) (λ c. c.in-LaneBit-1.keys2) (λ c κs. search rules) (λ c. c.in-ElementBit-1.keys3) (λ c. search rules)
+    (λ c κs. omega (arith, mod-le c.args.l c.args.plan.elements))
+    (λ c. ap (by c.before.before) (sym c.in-Always.is))
+    (λ c. c.lane_active.ensures ∙ ap (by c.before.before.before) (sym c.in-LaneBit.is))
+    (λ c. c.lane_active-in-ElementBit.ensures ∙ ap (by c.before.before.before.before) (sym c.in-ElementBit.is)))

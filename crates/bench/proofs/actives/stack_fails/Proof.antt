@@ -9,6 +9,6 @@ pub stack_fails_spec : {M : Type 1} → statement M
 unfolding stack_fails
 stack_fails_spec =
     tie.close (tie.spec (λ c. search rules)
-    (λ c. rw (eq-eqb _ _ c.if2.true, and-false)) (λ c κs. search rules)
-    (λ c. c.checks-stack.ensures ∙ rw (ne_eqb _ _ c.before.if2.false, eq-eqb _ _ c.before.before.before.if1.true, and-true))
-    (λ c. rw (ne_eqb _ _ c.if1.false)))
+    (λ c. rw (eq-eqb _ _ c.if-x-eq0.true, and-false)) (λ c κs. search rules)
+    (λ c. c.checks_stack.ensures ∙ rw (ne_eqb _ _ c.if-x-eq0.false, eq-eqb _ _ c.if-plan-eq31.true, and-true))
+    (λ c. rw (ne_eqb _ _ c.if-plan-eq31.false)))

@@ -8,5 +8,5 @@ pub takes_element_spec : {M : Type 1} → statement M
 unfolding lane_takes
 takes_element_spec =
     tie.close (tie.spec (λ c κs. search rules)
-    (λ c. c.may-take.ensures ∙ rw (lt-ltb _ _ c.before.if1.true))
-    (λ c. rw (le-ltb _ _ c.if1.false)))
+    (λ c. c.may_take.ensures ∙ rw (lt-ltb _ _ c.if-l-plan.true))
+    (λ c. rw (le-ltb _ _ c.if-l-plan.false)))

@@ -6,5 +6,5 @@ use Rattle.bench.proofs.chunks.lane_from.Tie as tie
 pub lane_from_spec : {M : Type 1} → statement M
 lane_from_spec =
     tie.close (tie.spec (λ c κs. search rules) (λ c κs. search rules)
-    (λ c. c.widened.ensures ∙ rw (c.before.before.if1.true, c.before.whole.ensures))
+    (λ c. c.widened.ensures ∙ rw (c.if-on.true, c.whole.ensures))
     (λ c. search rules))

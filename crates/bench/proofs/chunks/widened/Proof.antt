@@ -10,10 +10,10 @@ module _ (g : tie.Start) where
   half = 2 ^ (8 * g.args.size - 1)
 
   is : (1 * half) % 2 ^ 64 ≡ half
-  is = half_is g.args.size g.pre.0 g.pre.1
+  is = half_is g.args.size g.requires.0 g.requires.1
 
   few : (1 ≤ half) × (half + half ≤ 2 ^ 64)
-  few = half_few g.args.size g.pre.0 g.pre.1
+  few = half_few g.args.size g.requires.0 g.requires.1
 
 pub widened_spec : {M : Type 1} → statement M
 unfolding extended
@@ -24,8 +24,8 @@ widened_spec =
     (λ c κs. tt)
     (λ c.
     let g = c.before.before in
-    let t = rw (is g) at c.before.if1.true in
+    let t = rw (is g) at c.if-signed-half.true in
     let e : 18446744073709551615 - (half g - 1 + half g) ≡ 2 ^ 64 - 2 ^ (8 * g.args.size) = rw (twice g.args.size g.requires.0 g.requires.1)
     (omega (arith, few g)) in
-    c.wrapping-add-u64.ensures ∙ rw (is g, t, e))
-    (λ c. let t = rw (is c.before) at c.if1.false in rw t (omega arith)))
+    c.wrapping_add_u64.ensures ∙ rw (is g, t, e))
+    (λ c. let t = rw (is c.before) at c.if-signed-half.false in rw t (omega arith)))

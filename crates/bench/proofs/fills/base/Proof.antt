@@ -9,5 +9,5 @@ unfolding base_after
 base_spec =
     tie.close (tie.spec (λ c. search rules) (λ c. search rules) (λ c. search rules) (λ c κs. search rules) (λ c. search rules) (λ c. search rules)
     (λ c. search rules)
-    (λ c. rw (c.before.before.before.if1.true, c.wrapping-add-u64.ensures))
-    (λ c. rw c.if1.false))
+    (λ c. rw (c.if-plan.true, c.wrapping_add_u64.ensures))
+    (λ c. rw c.if-plan.false))

@@ -12,15 +12,15 @@ unfolding extended
 extend_spec =
     tie.close (tie.spec (λ c κs. tt) (λ c κs. tt)
     (λ c.
-    let h : 8 * bytes_of c.before.before.before.args.size ≤ 8 * bytes_of c.before.before.before.args.lane = omega arith in
-    rw (c.largest2.ensures, c.before.before.largest.ensures) (omega (arith, pow_mono h)))
+    let h : 8 * bytes_of c.args.size ≤ 8 * bytes_of c.args.lane = omega arith in
+    rw (c.largest.ensures, c.largest-most.ensures) (omega (arith, pow_mono h)))
     (λ c κs. tt)
     (λ c.
-    let g = c.before.before.before.before.args in
-    let t = rw (c.before.before.before.largest.ensures, sign_test (bytes_of g.size) (bytes_some g.size) (bytes_few g.size) g.v) at
-    c.before.before.if1.true in
-    c.wrapping-add-u64.ensures ∙ rw (c.before.largest2.ensures, c.before.before.before.largest.ensures, above g.size g.lane, t))
+    let g = c.args in
+    let t = rw (c.largest-most.ensures, sign_test (bytes_of g.size) (bytes_some g.size) (bytes_few g.size) g.v) at
+    c.if-signed-most.true in
+    c.wrapping_add_u64.ensures ∙ rw (c.largest.ensures, c.largest-most.ensures, above g.size g.lane, t))
     (λ c.
-    let g = c.before.before.args in
-    let t = rw (c.before.largest.ensures, sign_test (bytes_of g.size) (bytes_some g.size) (bytes_few g.size) g.v) at c.if1.false in
+    let g = c.args in
+    let t = rw (c.largest-most.ensures, sign_test (bytes_of g.size) (bytes_some g.size) (bytes_few g.size) g.v) at c.if-signed-most.false in
     rw t (omega arith)))

@@ -10,47 +10,47 @@ use Rattle.bench.proofs.Digits.{lane_filled}
 use Rattle.bench.proofs.fills.fill.Statement.{statement}
 use Rattle.bench.proofs.fills.fill.Tie as tie
 
-abbrev invariant-loop : tie.invariant-loop
+abbrev invariant-loop : tie.invariant-loop-l
 invariant-loop dst₀ map flash flash-rights ram ram-rights pred plan j width lanes l₀ dst l =
     (l ≤ lanes) × Filled (register_byte (answers_in (areas_of map flash flash-rights ram ram-rights) plan) plan pred j) width (length dst₀) dst l
 
-abbrev decreases-loop : tie.decreases-loop
+abbrev decreases-loop : tie.decreases-loop-l
 decreases-loop dst₀ map flash flash-rights ram ram-rights pred plan j width lanes l₀ dst l = lanes - l
 
 -- within a turn: the function's entry, and room for the lane
-module _ (t : tie.In-loop invariant-loop decreases-loop) where
+module _ (t : tie.In-loop-l invariant-loop decreases-loop) where
   abbrev G : tie.Start invariant-loop decreases-loop
   G = t.before.before.before.before.before.before.before.before.before
 
   abbrev width : ℕ
-  width = t.before.before.bytes.result
+  width = t.bytes-width.result
 
-  fits : (t.before.loop.l * width + width ≤ length G.args.dst.now) × (t.before.loop.l < length G.args.dst.now)
+  fits : (t.loop-l.l * width + width ≤ length G.args.dst.now) × (t.loop-l.l < length G.args.dst.now)
   fits =
-      let h = t.loop-test.taken in
-      (lane_room (length G.args.dst.now) width t.before.loop.l h, le_trans h (div-le_self (length G.args.dst.now) width))
+      let h = t.loop-l-test.true in
+      (lane_room (length G.args.dst.now) width t.loop-l.l h, le_trans h (div-le_self (length G.args.dst.now) width))
 
-  small : {m : ℕ} → m ≤ t.before.loop.l * width + width → Fits w64 m
-  small h = Fits-below {n = 256} tt (le_trans h (le_trans fits.0 G.pre.1.1))
+  small : {m : ℕ} → m ≤ t.loop-l.l * width + width → Fits w64 m
+  small h = Fits-below {n = 256} tt (le_trans h (le_trans fits.0 G.requires.1.1))
 
 pub fill_spec : {M : Type 1} → statement M
 unfolding register_of
 fill_spec =
     tie.close (tie.spec invariant-loop decreases-loop (λ c κs. tt)
-    (λ c. rw c.bytes.ensures (bytes_some c.before.before.before.before.before.before.before.args.plan.lane))
+    (λ c. rw c.bytes-width.ensures (bytes_some c.args.plan.lane))
     (λ c. (zero-le, unfilled _ _ _))
     (λ c κs. ((G c).requires.0, ((G c).requires.1.0, le_trans (le_of_lt (fits c).1) (G c).requires.1.1)))
     (λ c. small c.before (le-add_right _ _)) (λ c. small c.before (le_refl _)) (λ c. le-add_right _ _) (λ c. le-add_right _ _)
-    (λ c. le_trans (fits c.before).0 (le_of_eq (sym c.before.before.loop.invariant.1.size))) (λ c κs. tt)
+    (λ c. le_trans (fits c.before).0 (le_of_eq (sym c.loop-l.invariant.1.size))) (λ c κs. tt)
     (λ c. let t = c.before.before.before.before.before in next_fits (fits t).1 (G t).requires.1.1)
-    (λ c. less c.before.before.before.before.before.loop-test.true)
+    (λ c. less c.loop-l-test.true)
     (λ c.
     let t = c.before.before.before.before.before in (
-      next t.loop-test.true,
-      lane_filled _ _ _ _ t.before.before.bytes.ensures t.before.loop.invariant.1 (fits t).0 _
-          c.before.before.before.before.lane-value.ensures _ c.before.before.put.ensures,
+      next t.loop-l-test.true,
+      lane_filled _ _ _ _ t.bytes-width.ensures t.loop-l.invariant.1 (fits t).0 _
+          c.lane_value-v.ensures _ c.put.ensures,
     ))
-    (λ c. c.before.loop.invariant.1.size)
+    (λ c. c.loop-l.invariant.1.size)
     (λ c.
     let g = c.before.before.before.before.before.before.before.before.before in
-    all_filled c.before.loop.invariant.1 (whole _ _ g.args.plan.lane c.before.before.bytes.ensures g.requires.1.2 c.loop-test.false)))
+    all_filled c.loop-l.invariant.1 (whole _ _ g.args.plan.lane c.bytes-width.ensures g.requires.1.2 c.loop-l-test.false)))

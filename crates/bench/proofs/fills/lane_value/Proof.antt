@@ -25,12 +25,12 @@ lane_value_spec =
     tie.close (tie.spec (λ c κs. search rules) (λ c κs. search rules)
     (λ c κs.
     let g = c.before.before.before.before.before.before.before.before in
-    rw c.lane-element.ensures (few g.args.plan g.args.j g.args.l g.requires.1.0 g.requires.1.1))
+    rw c.lane_element-e.ensures (few g.args.plan g.args.j g.args.l g.requires.1.0 g.requires.1.1))
     (λ c κs. search rules)
     (λ c. c.extend.ensures
     ∙ rw (
-      sym c.before.before.before.before.takes-element.ensures ∙ c.before.before.before.if1.true,
-      c.before.value.ensures,
-      c.before.before.lane-element.ensures,
+      sym c.takes_element.ensures ∙ c.if-takes_element.true,
+      c.value-v.ensures,
+      c.lane_element-e.ensures,
     ))
-    (λ c. rw (sym c.before.takes-element.ensures ∙ c.if1.false)))
+    (λ c. rw (sym c.takes_element.ensures ∙ c.if-takes_element.false)))

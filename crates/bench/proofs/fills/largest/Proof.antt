@@ -4,6 +4,6 @@ use Rattle.bench.proofs.fills.largest.Tie as tie
 
 pub largest_spec : {M : Type 1} → statement M
 largest_spec =
-    tie.close (tie.spec (λ c. c.match.keys1) (λ c. c.match.keys2) (λ c. c.match.keys3) (λ c. c.match.keys4)
-    (λ c. rw c.enum_told.given.1) (λ c. rw c.enum-told2.given.1) (λ c. rw c.enum-told3.given.1)
-    (λ c. rw c.enum-told4.given.1))
+    tie.close (tie.spec (λ c. c.in-B8-1.keys1) (λ c. c.in-B16-1.keys2) (λ c. c.in-B32-1.keys3) (λ c. c.in-B64-1.keys4)
+    (λ c. rw c.in-B8.is) (λ c. rw c.in-B16.is) (λ c. rw c.in-B32.is)
+    (λ c. rw c.in-B64.is))

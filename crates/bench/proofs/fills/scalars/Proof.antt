@@ -8,4 +8,4 @@ pub scalars_spec : {M : Type 1} → statement M
 unfolding scalars_after
 scalars_spec =
     tie.close (tie.spec (λ c. search rules) (λ c κs. search rules) (λ c κs. search rules) (λ c. search rules) (λ c. search rules)
-    (λ c. rw (c.before.before.base.ensures, c.before.before.before.before.wrapping-add-u64.ensures)))
+    (λ c. rw (c.base.ensures, c.wrapping_add_u64-pc.ensures)))

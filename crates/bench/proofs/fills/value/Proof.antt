@@ -6,6 +6,6 @@ use Rattle.bench.proofs.fills.value.Tie as tie
 
 pub value_spec : {M : Type 1} → statement M
 value_spec =
-    tie.close (tie.spec (λ c κs. search rules) (λ c. c.match.keys1) (λ c. c.match.keys2)
-    (λ c. ap value_of (sym c.before.v.given.1 ∙ c.before.before.before.element.ensures))
-    (λ c. ap value_of (sym c.enum_told.given.1 ∙ c.before.before.element.ensures)))
+    tie.close (tie.spec (λ c κs. search rules) (λ c. c.in-Value-1.keys1) (λ c. c.in-Bad-1.keys2)
+    (λ c. ap value_of (sym c.in-Value.is ∙ c.element.ensures))
+    (λ c. ap value_of (sym c.in-Bad.is ∙ c.element.ensures)))

@@ -4,11 +4,11 @@ use Rattle.bench.proofs.Copies.{zeroed_more}
 use Rattle.bench.proofs.fills.zeros.Statement.{statement}
 use Rattle.bench.proofs.fills.zeros.Tie as tie
 
-abbrev invariant-loop : tie.invariant-loop
+abbrev invariant-loop : tie.invariant-loop-i
 invariant-loop dst₀ from n i₀ dst i =
     (from ≤ i) × (length dst ≡ length dst₀) × ((j : ℕ) → j < from → get_or dst j 0 ≡ get_or dst₀ j 0) × ((j : ℕ) → from ≤ j → j < i → get_or dst j 0 ≡ 0)
 
-abbrev decreases-loop : tie.decreases-loop
+abbrev decreases-loop : tie.decreases-loop-i
 decreases-loop dst₀ from n i₀ dst i = length dst₀ - i
 
 pub zeros_spec : {M : Type 1} → statement M
@@ -16,12 +16,12 @@ zeros_spec =
     tie.close (tie.spec invariant-loop decreases-loop
     (λ c. (search rules, search rules, λ j l. refl, λ j k l. absurd (omega arith))) (λ c. search rules) (λ c. search rules) (λ c. search rules)
     (λ c.
-    let t = c.before.loop in (
+    let t = c.loop-i in (
       omega arith,
       simp length-set t.invariant.1,
       λ j l. let other : j ≡ t.i → ⊥ = omega arith in get_or-set_other t.dst t.i j 0 0 other
           ∙ t.invariant.2 j l,
-      zeroed_more t.dst c.before.before.args.from t.i (omega arith) t.invariant.3,
+      zeroed_more t.dst c.args.from t.i (omega arith) t.invariant.3,
     ))
     (λ c. search rules)
-    (λ c. record { long = c.before.loop.invariant.1; kept = c.before.loop.invariant.2; zero = λ i k l. c.before.loop.invariant.3 i k (omega arith) }))
+    (λ c. record { long = c.loop-i.invariant.1; kept = c.loop-i.invariant.2; zero = λ i k l. c.loop-i.invariant.3 i k (omega arith) }))

@@ -6,8 +6,8 @@ use Rattle.bench.proofs.quick.blocks.Tie as tie
 pub blocks_spec : {M : Type 1} → statement M
 blocks_spec =
     tie.close (tie.spec (λ c κs. search rules) (λ c κs. search rules) (λ c κs. search rules)
-    (λ c. search rules) (λ c. let e : c.before.before.before.before.before.before.args.block ≡ 16 = omega arith in rw e
-    c.before.before.copies.ensures)
-    (λ c. search rules) (λ c. let e : c.before.before.before.before.before.before.args.block ≡ 32 = omega arith in rw e
-    c.before.before.copies2.ensures)
+    (λ c. search rules) (λ c. let e : c.args.block ≡ 16 = omega arith in rw e
+    c.copies.ensures)
+    (λ c. search rules) (λ c. let e : c.args.block ≡ 32 = omega arith in rw e
+    c.copies-in-32.ensures)
     (λ c. search rules) (λ c. search rules))

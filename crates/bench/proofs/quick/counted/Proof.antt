@@ -5,6 +5,6 @@ use Rattle.bench.proofs.quick.counted.Tie as tie
 
 pub counted_spec : {M : Type 1} → statement M
 counted_spec =
-    tie.close (tie.spec (λ c. c.match.keys1) (λ c. c.match.keys2) (λ c κs. tt) (λ c. c.match.keys3)
-    (λ c. rw c.enum_told.given.1) (λ c. c.one-if.ensures ∙ rw c.before.enum-told2.given.1)
-    (λ c. rw c.enum-told3.given.1))
+    tie.close (tie.spec (λ c. c.in-Always-1.keys1) (λ c. c.in-LaneBit-1.keys2) (λ c κs. tt) (λ c. c.in-ElementBit-1.keys3)
+    (λ c. rw c.in-Always.is) (λ c. c.one_if.ensures ∙ rw c.in-LaneBit.is)
+    (λ c. rw c.in-ElementBit.is))

@@ -10,30 +10,30 @@ use Rattle.bench.proofs.quick.fill.Statement.{statement}
 use Rattle.bench.proofs.quick.fill.Tie as tie
 
 -- once the chunks of its own are known
-module _ (o : tie.After-own-of) where
+module _ (o : tie.After-own_of-own) where
   abbrev g : tie.Start
   g = o.before.before.before.before.before
 
-  own : o.own_of_lem.result ≡ own_in g.args.plan
-  own = o.own_of_lem.ensures ∙ ap (own_of g.args.plan.rule g.args.plan.elements g.args.plan.filled) o.before.bytes.ensures
+  own : o.own_of-own.result ≡ own_in g.args.plan
+  own = o.own_of-own.ensures ∙ ap (own_of g.args.plan.rule g.args.plan.elements g.args.plan.filled) o.bytes-width.ensures
 
 pub fill_spec : {M : Type 1} → statement M
 fill_spec =
     tie.close (tie.spec (λ c κs. tt)
     (λ c κs. let g = c.before.before.before.before in
-    (g.requires.fit.sound.elements, g.requires.fit.sound.filled, rw c.bytes.ensures (bytes_few g.args.plan.lane)))
-    (λ c. rw c.before.bytes.ensures (Fits-below {n = 2048} tt (small _ (g c).args.plan.lane (g c).requires.fit.sound.filled)))
-    (λ c κs. let o = c.before in ((g o).requires, own o, o.before.bytes.ensures))
-    (λ c. let o = c.before.before.before.before.before in Fits-below {n = 256} tt (found_few (g o).requires (own o) o.before.bytes.ensures).1)
+    (g.requires.fit.sound.elements, g.requires.fit.sound.filled, rw c.bytes-width.ensures (bytes_few g.args.plan.lane)))
+    (λ c. rw c.bytes-width.ensures (Fits-below {n = 2048} tt (small _ (g c).args.plan.lane (g c).requires.fit.sound.filled)))
+    (λ c κs. let o = c.before in ((g o).requires, own o, o.bytes-width.ensures))
+    (λ c. let o = c.before.before.before.before.before in Fits-below {n = 256} tt (found_few (g o).requires (own o) o.bytes-width.ensures).1)
     (λ c κs.
     let o = c.before.before.before.before.before in (
-      (found_few (g o).requires (own o) o.before.bytes.ensures).0,
-      le_trans (found_room (g o).requires (own o) o.before.bytes.ensures)
-          (le_of_eq (sym c.before.before.dst.given)),
+      (found_few (g o).requires (own o) o.bytes-width.ensures).0,
+      le_trans (found_room (g o).requires (own o) o.bytes-width.ensures)
+          (le_of_eq (sym c.dst-1.given)),
     ))
     (λ c κs. tt) (λ c κs. tt) (λ c. search rules)
     (λ c.
     let o = c.before.before.before.before.before.before.before.before.before.before.before.before.before in
-    filled_out (g o).requires (own o) o.before.bytes.ensures
-    c.before.before.before.before.before.before.before.before.before.before.before.own-lanes.ensures
-    c.before.before.before.before.before.before.before.blocks2.ensures c.before.before.before.zeros.ensures c.counted.ensures))
+    filled_out (g o).requires (own o) o.bytes-width.ensures
+    c.own_lanes-lanes_on.ensures
+    c.blocks-2.ensures c.zeros.ensures c.counted.ensures))

@@ -9,11 +9,11 @@ own_lanes_spec =
     tie.close (tie.spec (λ c κs. tt) (λ c κs. tt)
     (λ c κs.
     let g = c.before.before.before.before.before.before in
-    let b = c.before.before.bytes.ensures in
-    other_in g.requires.0 g.requires.1 g.requires.2 b (c.before.stride-of.ensures ∙ rw b))
+    let b = c.bytes-element_bytes.ensures in
+    other_in g.requires.0 g.requires.1 g.requires.2 b (c.stride_of-stride.ensures ∙ rw b))
     (λ c. search rules)
     (λ c.
     let g = c.before.before.before.before.before.before.before.before.before in
-    let b = c.before.before.before.before.before.bytes.ensures in
-    other_out g.requires.0 g.requires.1 g.requires.2 b (c.before.before.before.before.stride-of.ensures ∙ rw b)
-    c.before.before.sized.ensures))
+    let b = c.bytes-element_bytes.ensures in
+    other_out g.requires.0 g.requires.1 g.requires.2 b (c.stride_of-stride.ensures ∙ rw b)
+    c.sized.ensures))

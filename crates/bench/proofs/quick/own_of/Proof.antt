@@ -6,7 +6,7 @@ use Rattle.bench.proofs.quick.own_of.Tie as tie
 
 pub own_of_spec : {M : Type 1} → statement M
 own_of_spec =
-    tie.close (tie.spec (λ c. c.match.keys1) (λ c. c.match.keys2)
-    (λ c. let g = c.before.before in Fits-below {n = 2048} tt (mul-le-mul {n₂ = 256} (omega arith) g.requires.2)) (λ c. c.match.keys3)
-    (λ c. let g = c.before.before in Fits-below {n = 2048} tt (mul-le-mul {n₂ = 256} (omega arith) g.requires.2))
-    (λ c. rw c.enum_told.given.1) (λ c. rw c.enum-told2.given.1) (λ c. rw c.enum-told3.given.1))
+    tie.close (tie.spec (λ c. c.in-Always-1.keys1) (λ c. c.in-LaneBit-1.keys2)
+    (λ c. let g = c.before in Fits-below {n = 2048} tt (mul-le-mul {n₂ = 256} (omega arith) g.requires.2)) (λ c. c.in-ElementBit-1.keys3)
+    (λ c. let g = c.before in Fits-below {n = 2048} tt (mul-le-mul {n₂ = 256} (omega arith) g.requires.2))
+    (λ c. rw c.in-Always.is) (λ c. rw c.in-LaneBit.is) (λ c. rw c.in-ElementBit.is))

@@ -15,14 +15,14 @@ replicate_spec =
     let f = g.requires in
     Fits-below {n = 2048} tt
     (mul-le-mul (le_trans (le_of_lt f.there) f.all.sound.elements) (le_trans (le_of_eq f.size) (bytes_few g.args.plan.size))))
-    (λ c κs. let f = c.before.before.requires in rw (f.size, f.all.long) (slot _ _ _ f.there))
+    (λ c κs. let f = c.requires in rw (f.size, f.all.long) (slot _ _ _ f.there))
     (λ c κs.
-    let f = c.before.before.before.before.requires in
+    let f = c.requires in
     let e = ends f in
     ⊎_elim (λ q. (omega arith, omega arith, omega (arith, e.1))) (λ q. (omega arith, omega arith, omega (arith, e.1))) e.2)
     (λ c κs. tt)
     (λ c. search rules)
     (λ c.
-    let f = c.before.before.before.before.before.before.before.before.before.before.before.requires in
-    let s = c.before.before.before.before.before.before.before.before.spread.ensures in
-    replicated_out f _ (rw f.size at s) c.before.before.before.before.before.before.repeat.ensures c.before.before.zeros.ensures))
+    let f = c.requires in
+    let s = c.spread-chunk.ensures in
+    replicated_out f _ (rw f.size at s) c.repeat.ensures c.zeros.ensures))

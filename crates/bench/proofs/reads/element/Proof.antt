@@ -8,4 +8,4 @@ pub element_spec : {M : Type 1} → statement M
 unfolding answers_in
 element_spec =
     tie.close (tie.spec (λ c κs. search rules) (λ c κs. tt)
-    (λ c. c.element.ensures ∙ rw c.before.place.ensures))
+    (λ c. c.element.ensures ∙ rw c.place-at.ensures))

@@ -9,6 +9,6 @@ pub place_spec : {M : Type 1} → statement M
 unfolding element_at
 place_spec =
     tie.close (tie.spec (λ c κs. tt)
-    (λ c. rw c.bytes.ensures (omega (arith, small c.before.before.args.e c.before.before.args.plan.size c.before.before.requires)))
+    (λ c. rw c.bytes.ensures (omega (arith, small c.args.e c.args.plan.size c.requires)))
     (λ c κs. tt)
-    (λ c. c.plus.ensures ∙ rw c.before.bytes.ensures))
+    (λ c. c.plus.ensures ∙ rw c.bytes.ensures))

@@ -7,4 +7,4 @@ use Rattle.bench.proofs.roads.destination.Tie as tie
 pub destination_spec : {M : Type 1} → statement M
 unfolding destination_of
 destination_spec =
-    tie.close (tie.spec (λ c. record { fits = omega (arith, c.before.requires.0.target, c.before.requires.1) }) (λ c. search rules) (λ c. refl))
+    tie.close (tie.spec (λ c. record { fits = omega (arith, c.requires.0.target, c.requires.1) }) (λ c. search rules) (λ c. refl))

@@ -9,17 +9,17 @@ use Rattle.bench.proofs.Small.{next, less, next_fits}
 use Rattle.bench.proofs.roads.destinations.Statement.{statement}
 use Rattle.bench.proofs.roads.destinations.Tie as tie
 
-abbrev invariant-loop : tie.invariant-loop
+abbrev invariant-loop : tie.invariant-loop-j
 invariant-loop z₀ n map flash flash-rights ram ram-rights pred plan count all j₀ z j =
     (j ≤ all) × (length z ≡ length z₀) × (z ≡ vectors_after (answers_in (areas_of map flash flash-rights ram ram-rights) plan) plan pred n z₀ j)
 
-abbrev decreases-loop : tie.decreases-loop
+abbrev decreases-loop : tie.decreases-loop-j
 decreases-loop z₀ n map flash flash-rights ram ram-rights pred plan count all j₀ z j = all - j
 
 -- within a turn: the destination is one of the load's
-there : (t : tie.In-loop invariant-loop decreases-loop)
-    → t.before.loop.j < destinations_in t.before.before.before.before.before.before.before.before.before.args.plan
-there t = le_trans t.loop-test.true (le_of_eq t.before.before.destinations-in.ensures)
+there : (t : tie.In-loop-j invariant-loop decreases-loop)
+    → t.loop-j.j < destinations_in t.args.plan
+there t = le_trans t.loop-j-test.true (le_of_eq t.destinations_in-all.ensures)
 
 -- .. and has its place in the file
 module _ (t : tie.After-destination invariant-loop decreases-loop) where
@@ -30,13 +30,13 @@ module _ (t : tie.After-destination invariant-loop decreases-loop) where
   at = t.destination.result * G.args.n
 
   fits : at + G.args.n ≤ length G.args.z.now
-  fits = in_file G.args.plan _ G.args.n t.destination.ensures G.pre.1.0.0
+  fits = in_file G.args.plan _ G.args.n t.destination.ensures G.requires.1.0.0
 
   small : {m : ℕ} → m ≤ at + G.args.n → Fits w64 m
-  small h = Fits-le (le_trans h fits) (record { fits = G.good.0.0 })
+  small h = Fits-le (le_trans h fits) (record { fits = G.well_formed.0.0 })
 
-  within : at + G.args.n ≤ length t.before.before.loop.z
-  within = le_trans fits (le_of_eq (sym t.before.before.loop.inv.1))
+  within : at + G.args.n ≤ length t.loop-j.z
+  within = le_trans fits (le_of_eq (sym t.loop-j.invariant.1))
 
 pub destinations_spec : {M : Type 1} → statement M
 unfolding vectors_after
@@ -50,17 +50,17 @@ destinations_spec =
     (λ c κs.
     let t = c.before in
     let g = G t in
-    let part = part_length t.before.before.loop.z (at t) g.args.n (within t) in
-    (g.pre.0, ((there t.before, rw part g.pre.1.0.1, rw part g.pre.1.0.2), g.pre.1.1)))
+    let part = part_length t.loop-j.z (at t) g.args.n (within t) in
+    (g.requires.0, ((there t.before, rw part g.requires.1.0.1, rw part g.requires.1.0.2), g.requires.1.1)))
     (λ c. let t = c.before.before.before.before in next_fits (there t.before) (destinations_few _ (G t).requires.0))
-    (λ c. less c.before.before.before.before.before.loop-test.true)
+    (λ c. less c.loop-j-test.true)
     (λ c.
     let t = c.before.before.before.before in
-    let w = c.before.before.written.ensures in
-    let so_far = t.before.before.loop.invariant in (
-      next t.before.loop-test.true,
+    let w = c.written.ensures in
+    let so_far = t.loop-j.invariant in (
+      next t.loop-j-test.true,
       as_long _ _ _ (G t).args.z.now _ (G t).args.n _ t.destination.result (within t) w ∙ so_far.1,
       one_more _ _ _ (G t).args.z.now _ (G t).args.n _ t.destination.result (within t) w t.destination.ensures so_far.2,
     ))
-    (λ c. c.before.loop.invariant.1)
-    (λ c. let t = c.before.loop in t.invariant.2 ∙ ap (vectors_after _ _ _ _ _) (le_antisymm t.invariant.0 c.loop-test.false ∙ c.before.before.destinations-in.ensures)))
+    (λ c. c.loop-j.invariant.1)
+    (λ c. let t = c.loop-j in t.invariant.2 ∙ ap (vectors_after _ _ _ _ _) (le_antisymm t.invariant.0 c.loop-j-test.false ∙ c.destinations_in-all.ensures)))

@@ -6,5 +6,5 @@ use Rattle.bench.proofs.roads.destinations_in.Tie as tie
 pub destinations_in_spec : {M : Type 1} → statement M
 unfolding destinations_in
 destinations_in_spec =
-    tie.close (tie.spec (λ c. c.match.keys1) (λ c. c.match.keys2) (λ c. c.match.keys3)
-    (λ c. rw c.enum_told.given.1) (λ c. rw c.enum-told2.given.1) (λ c. rw c.enum-told3.given.1))
+    tie.close (tie.spec (λ c. c.in-Always-1.keys1) (λ c. c.in-LaneBit-1.keys2) (λ c. c.in-ElementBit-1.keys3)
+    (λ c. rw c.in-Always.is) (λ c. rw c.in-LaneBit.is) (λ c. rw c.in-ElementBit.is))

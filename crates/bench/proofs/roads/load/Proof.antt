@@ -18,23 +18,23 @@ module _ (b : tie.After-bytes) where
   bytes = ap (λ (k : ℕ). g.args.plan.elements * k) b.bytes.ensures
 
   most : g.args.plan.elements * b.bytes.result ≤ 2048
-  most = rw bytes (small _ g.args.plan.size g.pre.1.0.sound.elements)
+  most = rw bytes (small _ g.args.plan.size g.requires.1.0.sound.elements)
 
   some : 0 < g.args.plan.elements * b.bytes.result
-  some = rw bytes (mul-pos g.pre.1.0.sound.some (bytes_some g.args.plan.size))
+  some = rw bytes (mul-pos g.requires.1.0.sound.some (bytes_some g.args.plan.size))
 
 pub load_spec : {M : Type 1} → statement M
 load_spec =
     tie.close (tie.spec (λ c κs. tt)
     (λ c. Fits-below {n = 2048} tt (most c.before))
-    (λ c κs. ((g c.before).pre.0, (some c.before, le_trans (most c.before) (lit≤ tt))))
-    (λ c κs. let b = c.before.before.before.before in ((g b).requires.1.0, c.before.if1.true ∙ bytes b, (g b).requires.1.1))
+    (λ c κs. ((g c.before.before).requires.0, (some c.before.before, le_trans (most c.before.before) (lit≤ tt))))
+    (λ c κs. let b = c.before.before.before.before.before in ((g b).requires.1.0, c.if-stretch-all_bytes.true ∙ bytes b, (g b).requires.1.1))
     (λ c. search rules)
     (λ c.
-    let b = c.before.before.before.before.before.before.before in
-    let all_together = c.before.before.before.before.before.find.ensures c.before.before.before.before.if1.true in
+    let b = c.before.before.before.before.before.before.before.before in
+    let all_together = c.find-stretch.ensures c.if-stretch-all_bytes.true in
     alike _ (g b).args.plan _ _ (g b).args.z.now _ (g b).requires.1.0.sound.some (stretch_answers _ _ _ _ all_together (g b).args.plan refl (bytes b))
-    c.before.before.from-stretch.ensures)
-    (λ c κs. let b = c.before.before.before.before in ((g b).requires.1.0.sound, ((g b).requires.1.1, (g b).requires.1.0.most, (g b).requires.1.0.whole)))
+    c.from_stretch.ensures)
+    (λ c κs. let b = c.before.before.before.before.before in ((g b).requires.1.0.sound, ((g b).requires.1.1, (g b).requires.1.0.most, (g b).requires.1.0.whole)))
     (λ c. search rules)
-    (λ c. c.before.before.one_by_one.ensures))
+    (λ c. c.one_by_one.ensures))

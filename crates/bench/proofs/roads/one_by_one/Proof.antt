@@ -9,13 +9,13 @@ one_by_one_spec =
     tie.close (tie.spec (λ c κs. search rules) (λ c κs. tt)
     (λ c κs.
     let g = c.before.before.before.before.before.before.before.before.before.before in
-    let s = sym c.before.before.before.survey.ensures in (
+    let s = sym c.survey-found.ensures in (
       g.requires.0,
       (
         g.requires.1,
         record {
-          number = ap (λ (t : Report). t.number) s ∙ sym c.before.before.number.ensures
-              ∙ c.before.if1.true;
+          number = ap (λ (t : Report). t.number) s ∙ sym c.number.ensures
+              ∙ c.if-number-eq0.true;
           counted = ap (λ (t : Report). t.count) s;
         },
       ),
@@ -24,8 +24,8 @@ one_by_one_spec =
     (λ c.
     let t = c.before.before.before.before in
     record {
-      report = t.before.before.survey.ensures;
-      vectors = rw (eq-eqb _ _ (sym t.before.number.ensures ∙ t.if1.true))
-          c.before.before.destinations.ensures;
+      report = t.survey-found.ensures;
+      vectors = rw (eq-eqb _ _ (sym t.number.ensures ∙ t.if-number-eq0.true))
+          c.destinations.ensures;
     })
-    (λ c. record { report = c.before.before.survey.ensures; vectors = rw (ne_eqb _ _ (λ e. c.if1.false (c.before.number.ensures ∙ e))) }))
+    (λ c. record { report = c.survey-found.ensures; vectors = rw (ne_eqb _ _ (λ e. c.if-number-eq0.false (c.number.ensures ∙ e))) }))

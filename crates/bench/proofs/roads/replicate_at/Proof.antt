@@ -14,19 +14,19 @@ module _ (t : tie.After-destination) where
   at = t.destination.result * g.args.n
 
   fits : at + g.args.n ≤ length g.args.z.now
-  fits = in_file g.args.plan _ g.args.n t.destination.ensures g.pre.1
+  fits = in_file g.args.plan _ g.args.n t.destination.ensures g.requires.1
 
   few : {m : ℕ} → m ≤ at + g.args.n → Fits w64 m
-  few h = Fits-le (le_trans h fits) (record { fits = g.good.0.0 })
+  few h = Fits-le (le_trans h fits) (record { fits = g.well_formed.0.0 })
 
 pub replicate_at_spec : {M : Type 1} → statement M
 replicate_at_spec =
     tie.close (tie.spec
-    (λ c κs. let f = c.before.before.requires.0 in (f.all.sound, le_trans (le_of_lt f.there) f.all.sound.elements))
+    (λ c κs. let f = c.requires.0 in (f.all.sound, le_trans (le_of_lt f.there) f.all.sound.elements))
     (λ c. few c (le-add_right _ _)) (λ c. few c (le_refl _)) (λ c. le-add_right _ _) (λ c. le-add_right _ _) (λ c. fits c)
     (λ c κs. let t = c.before in rw (part_length (g t).args.z.now (at t) (g t).args.n (fits t)) (g t).requires.0)
-    (λ c. c.before.z.given.1)
+    (λ c. c.z-1.given.1)
     (λ c pred.
     let t = c.before.before.before.before in
-    destination_filled _ _ pred (g t).args.z.now _ (g t).args.n (g t).args.j t.destination.result (fits t) (c.before.before.replicate.ensures pred)
+    destination_filled _ _ pred (g t).args.z.now _ (g t).args.n (g t).args.j t.destination.result (fits t) (c.replicate.ensures pred)
     t.destination.ensures))

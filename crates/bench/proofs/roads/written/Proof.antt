@@ -15,5 +15,5 @@ written_spec =
     (λ c. search rules)
     (λ c.
     let g = c.before.before.before.before.before.before.before.before.before.before.before in
-    nothing_read _ _ _ g.requires.0.some (rw c.before.before.before.before.if1.true at g.requires.1.1) _ g.requires.1.0.0 c.before.before.zeros.ensures)
-    (λ c. search rules) (λ c. c.before.before.fill.ensures))
+    nothing_read _ _ _ g.requires.0.some (rw c.if-count-eq0.true at g.requires.1.1) _ g.requires.1.0.0 c.zeros.ensures)
+    (λ c. search rules) (λ c. c.fill.ensures))

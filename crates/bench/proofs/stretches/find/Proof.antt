@@ -8,6 +8,6 @@ use Rattle.bench.proofs.stretches.find.Tie as tie
 pub find_spec : {M : Type 1} → statement M
 find_spec =
     tie.close (tie.spec (λ c κs. search rules)
-    (λ c. λ l. all_together _ c.before.before.before.before.before.before.requires.0 in_flash (c.before.in_area_lem.ensures l))
+    (λ c. λ l. all_together _ c.requires.0 in_flash (c.in_area-stretch.ensures l))
     (λ c κs. search rules)
-    (λ c. λ l. all_together _ c.before.before.before.before.before.before.before.requires.0 in_ram (c.in-area2.ensures l)))
+    (λ c. λ l. all_together _ c.requires.0 in_ram (c.in_area.ensures l)))

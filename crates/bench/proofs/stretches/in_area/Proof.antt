@@ -12,9 +12,9 @@ in_area_spec =
     (λ c. search rules)
     (λ c. λ _.
     let g = c.before.before.before.before.before.before.before.before.before in
-    let at = c.before.before.before.before.before.wrapping-sub-u64.result in
+    let at = c.wrapping_sub_u64-far.result in
     let ones = both_ones (get_or g.args.rights.now (at / page_bytes) 0 % 2) (get_or g.args.rights.now ((at + g.args.n - 1) / page_bytes) 0 % 2)
-    c.before.if3.true in
+    c.if-rights-at.true in
     stretch_within (area_of g.args.start g.args.bytes.now g.args.rights.now) g.args.a.0 g.args.n at g.requires.1.1 (omega arith)
     (omega arith)
     ones.0 ones.1)

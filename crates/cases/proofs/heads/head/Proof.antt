@@ -19,14 +19,14 @@ module _ {v w : ℕ} (e : v ≡ w) (k : ℕ) where
 pub head_spec : {M : Type 1} → statement M
 unfolding opened_of
 head_spec =
-    tie.close (tie.spec (λ c. rw (lt-ltb _ _ c.if1.true))
+    tie.close (tie.spec (λ c. rw (lt-ltb _ _ c.if-s-lt4.true))
     (λ c κs. tt)
-    (λ c. rw (le-ltb _ _ c.before.before.if1.false, other c.before.number.ensures.0 magic c.if2.true))
+    (λ c. rw (le-ltb _ _ c.if-s-lt4.false, other c.number.ensures.0 magic c.if-number-ne826952523.true))
     (λ c.
     let t = c.before.before in
-    rw (le-ltb _ _ t.before.if1.false, same t.number.ensures.0 magic c.before.if2.false, lt-ltb _ _ c.if3.true))
+    rw (le-ltb _ _ t.if-s-lt4.false, same t.number.ensures.0 magic c.if-number-ne826952523.false, lt-ltb _ _ c.if-s-lt96.true))
     (λ c κs. tt)
     (λ c.
     let t = c.before.before.before in
     rw c.marked.ensures
-    (rw (le-ltb _ _ t.before.if1.false, same t.number.ensures.0 magic c.before.before.if2.false, le-ltb _ _ c.before.if3.false))))
+    (rw (le-ltb _ _ t.if-s-lt4.false, same t.number.ensures.0 magic c.if-number-ne826952523.false, le-ltb _ _ c.if-s-lt96.false))))

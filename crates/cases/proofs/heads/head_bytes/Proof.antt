@@ -6,4 +6,4 @@ use Rattle.cases.proofs.heads.head_bytes.Tie as tie
 
 pub head_bytes_spec : {M : Type 1} → statement M
 unfolding head_bytes
-head_bytes_spec = tie.close (tie.spec (λ c. rw (eq-eqb _ _ c.if1.true)) (λ c. rw (ne_eqb _ _ c.if1.false)))
+head_bytes_spec = tie.close (tie.spec (λ c. rw (eq-eqb _ _ c.if-kind-eq0.true)) (λ c. rw (ne_eqb _ _ c.if-kind-eq0.false)))

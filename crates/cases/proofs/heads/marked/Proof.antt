@@ -21,36 +21,36 @@ module _ (s : List ℕ) {v : ℕ} (e : v ≡ flags_in s) {r b : Bool} where
   asked h t = rw (← e) (sym h ∙ t)
 
 -- what each test leaves
-no_flag : (c : tie.Else1) → strange_flag (flags_in c.before.before.before.before.args.s.now) ≡ false
-no_flag c = flagged c.before.before.before.before.args.s.now c.before.before.number.ensures.0 c.before.strange-flag.ensures c.if1.false
+no_flag : (c : tie.Else-strange_flag) → strange_flag (flags_in c.args.s.now) ≡ false
+no_flag c = flagged c.args.s.now c.number-flags.ensures.0 c.strange_flag.ensures c.if-strange_flag.false
 
-no_kind : (c : tie.Else2) → strange_kind (kind_of (flags_in c.before.before.before.before.before.before.args.s.now)) ≡ false
-no_kind c = asked c.before.before.before.before.before.before.args.s.now c.before.before.before.before.number.ensures.0 c.before.strange-kind.ensures c.if2.false
+no_kind : (c : tie.Else-strange_kind) → strange_kind (kind_of (flags_in c.args.s.now)) ≡ false
+no_kind c = asked c.args.s.now c.number-flags.ensures.0 c.strange_kind.ensures c.if-strange_kind.false
 
-level : (c : tie.Else3) → ltb 4 (bytes_at c.before.before.before.before.before.before.before.before.args.s.now 12 4) ≡ false
-level c = rw (← c.before.number2.ensures.0) (le-ltb _ _ c.if3.false)
+level : (c : tie.Else-number-gt4) → ltb 4 (bytes_at c.args.s.now 12 4) ≡ false
+level c = rw (← c.number.ensures.0) (le-ltb _ _ c.if-number-gt4.false)
 
 -- how long the head is
-far : (c : tie.After-head-bytes)
-    → c.head_bytes.result ≡ head_bytes (kind_of (flags_in c.before.before.before.before.before.before.before.before.before.args.s.now))
-far c = rw (← c.before.before.before.before.before.before.before.number.ensures.0) c.head_bytes.ensures
+far : (c : tie.After-head_bytes)
+    → c.head_bytes.result ≡ head_bytes (kind_of (flags_in c.args.s.now))
+far c = rw (← c.number-flags.ensures.0) c.head_bytes.ensures
 
 pub marked_spec : {M : Type 1} → statement M
 unfolding marked_of
 marked_spec =
     tie.close (tie.spec (λ c κs. tt) (λ c κs. tt)
-    (λ c. rw (flagged c.before.before.before.before.args.s.now c.before.before.number.ensures.0 c.before.strange-flag.ensures c.if1.true)) (λ c κs. tt)
+    (λ c. rw (flagged c.args.s.now c.number-flags.ensures.0 c.strange_flag.ensures c.if-strange_flag.true)) (λ c κs. tt)
     (λ c.
     let t = c.before.before in
-    rw (no_flag t, asked t.before.before.before.before.args.s.now t.before.before.number.ensures.0 c.before.strange-kind.ensures c.if2.true))
+    rw (no_flag t, asked t.args.s.now t.number-flags.ensures.0 c.strange_kind.ensures c.if-strange_kind.true))
     (λ c κs. tt)
-    (λ c. let t = c.before.before in rw (no_flag t.before.before, no_kind t, ← c.before.number2.ensures.0, lt-ltb _ _ c.if3.true)) (λ c κs. tt)
+    (λ c. let t = c.before.before in rw (no_flag t.before.before, no_kind t, ← c.number.ensures.0, lt-ltb _ _ c.if-number-gt4.true)) (λ c κs. tt)
     (λ c.
     let t = c.before.before in
-    rw (no_flag t.before.before.before.before, no_kind t.before.before, level t, ← far c.before, lt-ltb _ _ c.if4.true))
+    rw (no_flag t.before.before.before.before, no_kind t.before.before, level t, ← far c.before, lt-ltb _ _ c.if-s-head_bytes.true))
     (λ c κs. tt) (λ c κs. tt)
     (λ c.
     let u = c.before.before in
     let t = u.before.before in
-    rw (c.within_limits.ensures, c.before.read_head.ensures)
-    (rw (no_flag t.before.before.before.before, no_kind t.before.before, level t, ← far u.before, le-ltb _ _ u.if4.false))))
+    rw (c.within_limits.ensures, c.read_head.ensures)
+    (rw (no_flag t.before.before.before.before, no_kind t.before.before, level t, ← far u.before, le-ltb _ _ u.if-s-head_bytes.false))))

@@ -14,7 +14,7 @@ read_head_spec =
     let e = d.before.before.before in
     let f = e.before.before.before in
     let g = f.before.before in
-    rw (g.before.number.ensures.0, g.read-question.ensures, f.before.number2.ensures.0, f.number3.ensures.0)
-    (rw (e.before.before.number4.ensures.0, e.before.number5.ensures.0, e.number6.ensures.0)
-    (rw (d.before.before.number7.ensures.0, d.before.number8.ensures.0, d.number9.ensures.0)
-    (rw (c.before.before.number10.ensures.0, c.before.number11.ensures.0, c.number12.ensures.0))))))
+    rw (g.number-flags.ensures.0, g.read_question-question.ensures, f.number.ensures.0, f.number-2.ensures.0)
+    (rw (e.number-3.ensures.0, e.number-4.ensures.0, e.number-5.ensures.0)
+    (rw (d.number-6.ensures.0, d.number-7.ensures.0, d.number-8.ensures.0)
+    (rw (c.number-9.ensures.0, c.number-10.ensures.0, c.number-11.ensures.0))))))

@@ -21,11 +21,11 @@ pub read_question_spec : {M : Type 1} → statement M
 unfolding question_of
 read_question_spec =
     tie.close (tie.spec (λ c κs. tt)
-    (λ c. rw (step c.before.before.before.args.s.now c.before.number.ensures.0 c.if1.true))
+    (λ c. rw (step c.args.s.now c.number.ensures.0 c.if-kind-eq0.true))
     (λ c κs. tt) (λ c κs. tt) (λ c κs. tt) (λ c κs. tt) (λ c κs. tt)
     (λ c.
     let d = c.before.before in
     let t = d.before.before.before in
-    let e = t.before.number.ensures.0 in
-    rw (no_step t.before.before.before.args.s.now e t.if1.false, e, d.before.before.number2.ensures.0, d.before.number3.ensures.0)
-    (rw (d.number4.ensures.0, c.before.number5.ensures.0, c.number6.ensures.0))))
+    let e = t.number.ensures.0 in
+    rw (no_step t.args.s.now e t.if-kind-eq0.false, e, d.number-2.ensures.0, d.number-3.ensures.0)
+    (rw (d.number-4.ensures.0, c.number-5.ensures.0, c.number-6.ensures.0))))

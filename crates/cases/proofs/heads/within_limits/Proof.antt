@@ -11,13 +11,13 @@ use Rattle.cases.proofs.heads.within_limits.Statement.{statement}
 use Rattle.cases.proofs.heads.within_limits.Tie as tie
 
 -- the case, from where its head's length is known
-abbrev case : tie.After-head-bytes → Case
+abbrev case : tie.After-head_bytes → Case
 case c =
     let t = c.before.before.before.before.before.before.before.before in
-    t.before.before.before.before.before.before.before.before.before.args.case
+    t.args.case
 
 -- past the tests no part is too long
-short : (c : tie.After-head-bytes) → Bounds (case c)
+short : (c : tie.After-head_bytes) → Bounds (case c)
 short c =
     let t7 = c.before.before.before in
     let t6 = t7.before.before in
@@ -26,18 +26,18 @@ short c =
     let t3 = t4.before.before in
     let t2 = t3.before.before in
     record {
-      vectors = t2.before.before.if1.false;
-      predicates = t2.if2.false;
-      scalars = t3.if3.false;
-      flash = t4.if4.false;
-      flash_rights = t5.if5.false;
-      ram = t6.if6.false;
-      ram_rights = t7.if7.false;
-      blob = c.before.if8.false;
+      vectors = t2.if-case-gt65536.false;
+      predicates = t2.if-case-gt4096.false;
+      scalars = t3.if-case-gt128.false;
+      flash = t4.if-case-gt131072.false;
+      flash_rights = t5.if-case-gt64.false;
+      ram = t6.if-case-gt131072-2.false;
+      ram_rights = t7.if-case-gt64-2.false;
+      blob = c.if-case-gt65536-2.false;
     }
 
 -- .. and neither is the head
-few : (c : tie.After-head-bytes) → c.head_bytes.result ≤ 136
+few : (c : tie.After-head_bytes) → c.head_bytes.result ≤ 136
 few c = rw c.head_bytes.ensures (head_most (case c).question.kind)
 
 pub within_limits_spec : {M : Type 1} → statement M
@@ -50,8 +50,8 @@ within_limits_spec =
     let t6 = c.before.before.before.before in
     let t4 = t6.before.before.before.before in
     let t2 = t4.before.before.before.before in
-    rw (le-ltb _ _ t2.before.before.if1.false, le-ltb _ _ t2.if2.false, le-ltb _ _ t4.before.before.if3.false, le-ltb _ _ t4.if4.false)
-    (rw (le-ltb _ _ t6.before.before.if5.false, le-ltb _ _ t6.if6.false, le-ltb _ _ c.before.before.if7.false, lt-ltb _ _ c.if8.true)))
+    rw (le-ltb _ _ t2.if-case-gt65536.false, le-ltb _ _ t2.if-case-gt4096.false, le-ltb _ _ t4.if-case-gt128.false, le-ltb _ _ t4.if-case-gt131072.false)
+    (rw (le-ltb _ _ t6.if-case-gt64.false, le-ltb _ _ t6.if-case-gt131072-2.false, le-ltb _ _ c.if-case-gt64-2.false, lt-ltb _ _ c.if-case-gt65536-2.true)))
     (λ c κs. tt)
     (λ c. let t = c.before in record { fits = omega (arith, few t, short t) })
     (λ c. let t = c.before.before in record { fits = omega (arith, few t, short t) })

@@ -27,4 +27,4 @@ put_report_spec =
     (λ c. search rules) (λ c. search rules)
     (λ c.
     let g = c.before.before.before.before.before.before in
-    reported g.args.dst.now g.args.told c.before.before.put-numbers.ensures (omega (arith, g.requires))))
+    reported g.args.dst.now g.args.told c.put_numbers.ensures (omega (arith, g.requires))))

@@ -33,4 +33,4 @@ put_window_spec =
     (λ c.
     let t = c.before.before.before.before.before.before in
     let g = t.before.before.before.before in
-    c.before.before.put-report.ensures ∙ as_window _ g.args.out.now t.put-numbers.ensures g.requires))
+    c.put_report.ensures ∙ as_window _ g.args.out.now t.put_numbers.ensures g.requires))

@@ -5,5 +5,5 @@ use Rattle.cases.proofs.outcomes.step_told.Tie as tie
 
 pub step_told_spec : {M : Type 1} → statement M
 step_told_spec =
-    tie.close (tie.spec (λ c κs. tt) (λ c. record { fits = rw c.number.ensures (in_byte c.before.args.res.answer) }) (λ c κs. tt) (λ c κs. tt)
-    (λ c. rw (c.before.before.number.ensures, c.before.element.ensures, c.address.ensures)))
+    tie.close (tie.spec (λ c κs. tt) (λ c. record { fits = rw c.number.ensures (in_byte c.args.res.answer) }) (λ c κs. tt) (λ c κs. tt)
+    (λ c. rw (c.number.ensures, c.element.ensures, c.address.ensures)))

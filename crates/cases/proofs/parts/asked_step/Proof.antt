@@ -15,7 +15,7 @@ prefix xs n e h = sym (simp length-take (omega arith))
 pub asked_step_spec : {M : Type 1} → statement M
 asked_step_spec =
     tie.close (tie.spec (λ c κs. tt)
-    (λ c. omega (arith, c.before.scalars.ensures, c.before.before.before.before.requires.0))
-    (λ c. prefix _ _ c.before.before.scalars.ensures c.before.before.before.before.before.requires.0)
-    (λ c κs. let g = c.before.before.before.before.before in (sym (prefix _ _ c.before.before.scalars.ensures g.requires.0), g.requires.1, g.requires.2))
+    (λ c. omega (arith, c.scalars-x.ensures, c.requires.0))
+    (λ c. prefix _ _ c.scalars-x.ensures c.requires.0)
+    (λ c κs. let g = c.before.before.before.before.before in (sym (prefix _ _ c.scalars-x.ensures g.requires.0), g.requires.1, g.requires.2))
     (λ c. search rules) (λ c. search rules))

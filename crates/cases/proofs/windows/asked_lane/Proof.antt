@@ -9,14 +9,14 @@ use Rattle.cases.proofs.windows.asked_lane.Statement.{statement}
 use Rattle.cases.proofs.windows.asked_lane.Tie as tie
 
 -- the vector file's part lies within the bytes
-within : (c : tie.After-head-bytes) → let g = c.before.before.args in c.head_bytes.result + g.case.vectors ≤ length g.s.now
-within c = omega (arith, c.head_bytes.ensures, c.before.before.requires)
+within : (c : tie.After-head_bytes-vectors_at) → let g = c.args in c.head_bytes-vectors_at.result + g.case.vectors ≤ length g.s.now
+within c = omega (arith, c.head_bytes-vectors_at.ensures, c.requires)
 
 pub asked_lane_spec : {M : Type 1} → statement M
 unfolding lane_told
 asked_lane_spec =
     tie.close (tie.spec (λ c κs. tt) (λ c. search rules)
-    (λ c. search rules) (λ c. search rules) (λ c. within c.before) (λ c κs. tt) (λ c κs. c.asked-shown.ensures.1)
+    (λ c. search rules) (λ c. search rules) (λ c. within c.before) (λ c κs. tt) (λ c κs. c.asked_shown.ensures.1)
     (λ c.
     let t = c.before.before.before.before in
-    rw (c.lane_told.ensures, c.before.asked-shown.ensures.0, ← t.head_bytes.ensures) (rw (cut t.before.before.args.s.now t.head_bytes.result t.before.before.args.case.vectors))))
+    rw (c.lane_told.ensures, c.asked_shown.ensures.0, ← t.head_bytes-vectors_at.ensures) (rw (cut t.args.s.now t.head_bytes-vectors_at.result t.args.case.vectors))))

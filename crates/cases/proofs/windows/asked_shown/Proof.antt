@@ -7,11 +7,11 @@ use Rattle.cases.proofs.windows.asked_shown.Tie as tie
 pub asked_shown_spec : {M : Type 1} → statement M
 asked_shown_spec =
     tie.close (tie.spec (λ c κs. tt)
-    (λ c. rw (eq-eqb _ _ c.before.if1.true) c.shown.ensures) (λ c κs. tt)
-    (λ c. let t = c.before in rw (ne_eqb _ _ t.before.before.if1.false, eq-eqb _ _ t.if2.true) c.shown2.ensures) (λ c κs. tt)
+    (λ c. rw (eq-eqb _ _ c.if-q-eq0.true) c.shown.ensures) (λ c κs. tt)
+    (λ c. let t = c.before in rw (ne_eqb _ _ t.if-q-eq0.false, eq-eqb _ _ t.if-q-eq1.true) c.shown-then-q-eq1.ensures) (λ c κs. tt)
     (λ c.
     let t = c.before.before.before in
-    rw (ne_eqb _ _ t.before.before.if1.false, ne_eqb _ _ t.if2.false, eq-eqb _ _ c.before.if3.true) c.shown3.ensures)
+    rw (ne_eqb _ _ t.if-q-eq0.false, ne_eqb _ _ t.if-q-eq1.false, eq-eqb _ _ c.if-q-eq2.true) c.shown-then-q-eq2.ensures)
     (λ c.
     let t = c.before.before in
-    rw (ne_eqb _ _ t.before.before.if1.false, ne_eqb _ _ t.if2.false, ne_eqb _ _ c.if3.false) (refl, tt)))
+    rw (ne_eqb _ _ t.if-q-eq0.false, ne_eqb _ _ t.if-q-eq1.false, ne_eqb _ _ c.if-q-eq2.false) (refl, tt)))

@@ -8,9 +8,9 @@ pub lane_told_spec : {M : Type 1} → statement M
 unfolding bits_of
 lane_told_spec =
     tie.close (tie.spec (λ c. search rules) (λ c κs. tt) (λ c. search rules) (λ c. search rules)
-    (λ c. rw c.before.lane2.given.1 at c.before.before.before.requires) (λ c κs. tt) (λ c. search rules)
-    (λ c. rw c.before.lane3.given.1 at c.before.before.before.requires)
-    (λ c. rw (c.before.enum_told.given.1, c.nothing.ensures))
-    (λ c. rw c.before.lane.given.1)
-    (λ c. rw (c.before.before.lane2.given.1, c.wide.ensures))
-    (λ c. rw c.before.lane3.given.1))
+    (λ c. rw c.in-Single.is at c.requires) (λ c κs. tt) (λ c. search rules)
+    (λ c. rw c.in-Double.is at c.requires)
+    (λ c. rw (c.in-NoLane.is, c.nothing.ensures))
+    (λ c. rw c.in-Whole.is)
+    (λ c. rw (c.in-Single.is, c.wide.ensures))
+    (λ c. rw c.in-Double.is))

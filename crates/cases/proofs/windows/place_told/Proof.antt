@@ -19,9 +19,9 @@ pub place_told_spec : {M : Type 1} → statement M
 place_told_spec =
     tie.close (tie.spec (λ c κs. tt) (λ c κs. tt) (λ c. search rules) (λ c. search rules) (λ c. search rules) (λ c κs. tt)
     (λ c.
-    let e = sym c.before.before.before.shown-place.ensures ∙ c.before.k.given.1 in
-    rw e (rw (rest _ _ _ (rw e at c.before.before.before.before.window-beside.ensures))))
+    let e = sym c.shown_place.ensures ∙ c.in-Flash.is in
+    rw e (rw (rest _ _ _ (rw e at c.window_beside-part.ensures))))
     (λ c.
-    let e = sym c.before.before.before.shown-place.ensures ∙ c.before.k2.given.1 in
-    rw e (rw (rest _ _ _ (rw e at c.before.before.before.before.window-beside.ensures))))
-    (λ c. rw (sym c.before.before.before.shown-place.ensures ∙ c.before.enum_told.given.1, c.nothing.ensures)))
+    let e = sym c.shown_place.ensures ∙ c.in-Ram.is in
+    rw e (rw (rest _ _ _ (rw e at c.window_beside-part.ensures))))
+    (λ c. rw (sym c.shown_place.ensures ∙ c.in-Nowhere.is, c.nothing.ensures)))

@@ -8,5 +8,5 @@ use Rattle.cases.proofs.windows.shown.Tie as tie
 pub shown_spec : {M : Type 1} → statement M
 shown_spec =
     tie.close (tie.spec
-    (λ c. (sym (no_register _ _ _ _ _ _ c.if1.true), tt)) (λ c. (sym (no_width _ _ _ _ _ _ c.if2.true), tt)) (λ c. search rules) (λ c. search rules)
+    (λ c. (sym (no_register _ _ _ _ _ _ c.if-q-gt31.true), tt)) (λ c. (sym (no_width _ _ _ _ _ _ c.if-q-gt64.true), tt)) (λ c. search rules) (λ c. search rules)
     (λ c κs. tt) (λ c. (c.show.ensures.shown, no_nan _ _ _ _ _ _ _ c.show.ensures)))

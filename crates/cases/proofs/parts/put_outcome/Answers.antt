@@ -1,11 +1,5 @@
 -- `put_outcome` meets its contract: z and x lie one behind the other, and the report before them.
-use mathlib.Core.Path.{◌≡◌, refl, sym, ap, ◌∙◌}
-use mathlib.Core.List.{List, ◌++◌, append_assoc}
-use Prim.Native.Nat.{ℕ, ◌+◌, ◌-◌, ◌*◌, ◌≤◌}
-use native.Mathlib.Omega.{arith}
-use borrow.Author.Rules.{rules}
-use lib.ListN.{length, take, drop, length-take}
-use lib.Seq.{drop_at}
+use Rattle.std.proofs.Common.{◌≡◌, ℕ, ◌+◌, ◌-◌, ◌*◌, ◌≤◌, List, ◌++◌, length, take, drop, refl, sym, ap, ◌∙◌, append_assoc, arith, length-take, drop_at}
 use Rattle.ground.specs.Lists.{replaced}
 use Rattle.ground.proofs.Fills.{part_length, back_in, replaced_next}
 use Rattle.steps.specs.Answers.{report_of}
@@ -16,8 +10,7 @@ use Rattle.cases.specs.Parts.{part_at, ram_at, lent_in, bench_in}
 use Rattle.cases.specs.Outcomes.{eights, report_bytes, outcome_bytes}
 use Rattle.cases.specs.Inside.{step_length, step_in}
 use Rattle.cases.specs.declared.heads.Case.{Case}
-use Rattle.cases.proofs.parts.put_outcome.Statement.{statement}
-use Rattle.cases.proofs.parts.put_outcome.Tie as tie
+use Rattle.cases.proofs.parts.put_outcome.Goals as goal
 
 -- two parts put in one behind the other, from place 25 on
 behind : (out : List ℕ) (n m : ℕ) (z xs : List ℕ) → length z ≡ n → 25 + n + m ≤ length out
@@ -43,27 +36,19 @@ as_outcome : (s : List ℕ) (c : Case) (out : List ℕ) (r : StepResult) {z x : 
 unfolding step_in outcome_bytes
 as_outcome s c out r {z} {x} h = rw (← h.ends) (sym (append_assoc (report_bytes (report_of r)) (z ++ eights x) (drop (step_length c) out)))
 
-pub put_outcome_spec : {M : Type 1} → statement M
-put_outcome_spec =
-    tie.close (tie.spec
-    (λ c. search rules) (λ c. search rules) (λ c. search rules) (λ c. search rules) (λ c. search rules) (λ c. search rules)
-    (λ c κs. search rules) (λ c. search rules) (λ c. search rules) (λ c. search rules) (λ c κs. search rules)
-    (λ c κs. tt) (λ c κs. search rules) (λ c. search rules) (λ c. search rules)
-    (λ c.
-    let put = c.before.before.before.before.before.before.before in
-    let back = put.before.before.before.before.before.before in
-    let g = back.before.before.before.before.before.before.before.before in
-    let step = back.before.stepped in
-    let out = g.args.out.now in
-    let n = g.args.case.vectors in
-    let m = 8 * length g.args.x.now in
-    let z = step.new.0 in
-    let x = step.new.1.0 in
-    let room : 25 + n + m ≤ length out = omega (arith, g.requires.0, g.requires.1) in
-    let size : length z ≡ n = back.out.given.0 ∙ part_length out 25 n (omega arith) in
-    let far : 25 + n + m ≡ step_length g.args.case = ap (λ (k : ℕ). 25 + n + 8 * k) g.requires.0 in
-    rw c.before.before.before.step-told.ensures at c.before.before.put-report.ensures
-    ∙ ap (λ (l : List ℕ). report_bytes (report_of step.result) ++ drop 25 l) (layers out z _ (eights x) n m put.put-numbers.ensures)
+pub returns : goal.returns
+returns c =
+    let step = c.stepped-result in
+    let out = c.args.out.now in
+    let n = c.args.case.vectors in
+    let m = 8 * length c.args.x.now in
+    let z = step.new.z in
+    let x = step.new.x in
+    let room : 25 + n + m ≤ length out = omega (arith, c.requires.0, c.requires.1) in
+    let size : length z ≡ n = step.auto.z ∙ part_length out 25 n (omega arith) in
+    let far : 25 + n + m ≡ step_length c.args.case = ap (λ (k : ℕ). 25 + n + 8 * k) c.requires.0 in
+    rw c.step_told.ensures at c.put_report.ensures
+    ∙ ap (λ (l : List ℕ). report_bytes (report_of step.result) ++ drop 25 l) (layers out z _ (eights x) n m c.put_numbers.ensures)
     ∙ ap (λ (l : List ℕ). report_bytes (report_of step.result) ++ l)
     (behind out n m z (eights x) size room ∙ ap (λ (k : ℕ). (z ++ eights x) ++ drop k out) far)
-    ∙ as_outcome g.args.s.now g.args.case out step.result step.ensures))
+    ∙ as_outcome c.args.s.now c.args.case out step.result step.ensures
