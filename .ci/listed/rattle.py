@@ -18,14 +18,16 @@ FOREIGN = re.compile(r'\bextern\s*(?:"[^"]*"\s*)?\{')
 BRACE = re.compile(r"[{}()]")
 RAW = re.compile(r'\b(?:b|c)?r(?P<marks>#*)".*?"(?P=marks)', re.S)
 # What leaves the meaning of a text as it is: how proofs are looked for, the impls that a derive of the kit writes and what it reads in a type,
-# a value's place in memory, a name for a linker, a compiler's hints, and a test, which is a function of no crate
+# a value's place in memory, a name for a linker, a compiler's hints, and a test, or a module of tests, which is no part of a crate
 TACTIC = r"tactic\((?:[^][()]|\([^][()]*\))*\)"
-HARMLESS = rf'{TACTIC}|derive\([^][()]*\)|error\([^][()]*\)|from|default|repr\(C\)|unsafe\(no_mangle\)|inline(?:\(\w+\))?|cold'
+HARMLESS = rf"{TACTIC}|derive(?:_where)?\([^][()]*\)|error\([^][()]*\)|from|default|repr\(C\)|unsafe\(no_mangle\)|cycle\(\w+\)"
+HARMLESS += r"|must_use|inline(?:\(\w+\))?|cold"
+TESTS = r"test\]\s*fn\b|cfg\(test\)\]\s*mod\b"
 DECEIVING = (  # what could make a text say something else than it shows
     (FOREIGN, "a foreign function, whose contract would be assumed"),
     (RAW, "a raw string, in which a comment could hide"),
     (re.compile(r"\btype\s+\w+|(?<!ghost )\buse\b[^;]*\bas\b"), "another name for a type or a function"),
-    (re.compile(rf"#\s*\[(?!(?:{HARMLESS})\]|test\]\s*fn\b)|#\s*!\s*\[(?!{TACTIC}\])"), "an attribute other than those that change no meaning"),
+    (re.compile(rf"#\s*\[(?!(?:{HARMLESS})\]|{TESTS})|#\s*!\s*\[(?!{TACTIC}\])"), "an attribute other than those that change no meaning"),
     (re.compile(r"\bmacro_rules\b|\bmacro\s+\w|\binclude\w*\s*!"), "a macro of its own, or a text of another file"),
     (re.compile(r"\bpub\s+use\b[^;]*\*"), "`pub use` of names that are not written down"),
     (re.compile(r"\bghost\b(?!\s+use\b|\s+\w+\s*[=:]\s*\{|\s*\{)"), "a `ghost` that is not read here"),
