@@ -45,7 +45,7 @@ def verdict(out, log):
         raise Unfit("its log is empty: it was not tried to the end")
     if match[1] == "0":
         raise Unfit("rt: NOT REFUSED: the crate is still proved with this edit")
-    if match[1] != "1" or log and not re.search(r"^logic=not-proved", log, re.M):
+    if match[1] != "1" or (log or "").strip() and not re.search(r"^logic=not-proved", log, re.M):
         raise Unfit(f"rt: BAD EDIT: it did not reach the prover (status {match[1]})")
 
 
