@@ -6,11 +6,17 @@ mod lines;
 mod printed;
 mod search;
 
-use libc::{STDERR_FILENO, STDIN_FILENO, STDOUT_FILENO};
 use lines::Line;
 use search::{find, part};
+use std::fs;
+use std::fs::File;
+use std::os::unix::fs::{FileExt, FileTypeExt};
 use texts::Text;
 use words::{Back, Decoded, Insn, Offset, Shape};
+
+const STDOUT_FILENO: i32 = 1;
+
+const STDERR_FILENO: i32 = 2;
 
 // How many rows the table has.
 const ROWS: usize = 18;
@@ -164,25 +170,37 @@ fn first_line(run: Run, bytes: &[u8]) -> Run {
     }
 }
 
+// Where standard input cannot be read at the places that a file has.
+fn unread(run: Run) -> Run {
+    refused(run, b" cannot be read: standard input must be a file\n")
+}
+
+// Standard input as a file that can be read at any place. A pipe and a socket are none.
+fn input(rt: &HostRuntime) -> Option<File> {
+    let kind = fs::metadata(rt, "/dev/stdin").ok()?.file_type();
+    if kind.is_fifo() || kind.is_socket() {
+        return None;
+    }
+    File::open(rt, "/dev/stdin").ok()
+}
+
 // Reads on at the place where the next line begins, so that no byte has to be kept for the next turn.
-fn turn(run: Run) -> Run {
+fn turn(input: &File, run: Run) -> Run {
     let mut buf = [0u8; 128];
-    let at = (run.at % 0x8000_0000_0000_0000) as i64;
-    let got = libc::pread(STDIN_FILENO, &mut buf, at);
-    if got < 0 {
-        return refused(run, b" cannot be read: standard input must be a file\n");
+    let at = run.at % 0x8000_0000_0000_0000;
+    match input.read_at(&mut buf, at) {
+        Err(_) => unread(run),
+        Ok(0) => {
+            let mut end = run;
+            end.open = false;
+            end
+        }
+        Ok(n) => first_line(run, &buf[..n]),
     }
-    if got == 0 {
-        let mut end = run;
-        end.open = false;
-        return end;
-    }
-    let n = io::count(got, &buf);
-    first_line(run, &buf[..n])
 }
 
 // Reads to the end. A loop has to end, and nothing says that a file does, so the turns are counted down from a number that no run uses up.
-fn all() -> Run {
+fn all(rt: &HostRuntime) -> Run {
     let mut run = Run {
         at: 0,
         line: 1,
@@ -191,9 +209,12 @@ fn all() -> Run {
         words: [0; ROWS],
         agree: [0; ROWS],
     };
+    let Some(input) = input(rt) else {
+        return unread(run);
+    };
     let mut turns = u64::MAX;
     while turns > 0 && run.open {
-        run = turn(run);
+        run = turn(&input, run);
         turns -= 1;
     }
     run
@@ -222,8 +243,8 @@ fn report(form: &[u8], agree: [u64; ROWS], words: [u64; ROWS]) {
     }
 }
 
-fn main() {
-    let run = all();
+fn main(rt: HostRuntime) {
+    let run = all(&rt);
     if !run.sound {
         return;
     }

@@ -1,11 +1,10 @@
 -- What is claimed of sizes, and of numbers as bytes.
-use Rattle.std.specs.Prelude.{if◌then◌else◌}
 use Prim.Native.Nat.{◌%◌, ◌+◌, ◌/◌, ◌<◌, ◌^◌, ◌≤◌, ℕ}
 use Rattle.ground.specs.Lists.{NumberPromise, PutPromise, little}
 use Rattle.ground.specs.Sizes.{BytesPromise, SizePromise, bytes_of, size_of}
 use Rattle.ground.specs.declared.Size.{Size}
 use Rattle.ground.specs.declared.Size.TheVariants.{B64}
-use mathlib.Core.Bool.{Bool, false, true}
+use mathlib.Core.Bool.{Bool, cond, false, true}
 use mathlib.Core.List.{List}
 use mathlib.Core.Path.{◌≡◌}
 
@@ -31,7 +30,7 @@ pub put_unique : (dst : List ℕ) (v : ℕ) (a b : List ℕ) → PutPromise dst 
 put_unique = Rattle.ground.proofs.Unique.put_unique
 
 -- a fact of both sides of a choice, each under its test
-pub if_cases {ℓ κ} : {A : Type ℓ} (P : A → Type κ) (b : Bool) (x y : A) → (b ≡ true → P x) → (b ≡ false → P y) → P (if b then x else y)
+pub if_cases {ℓ κ} : {A : Type ℓ} (P : A → Type κ) (b : Bool) (x y : A) → (b ≡ true → P x) → (b ≡ false → P y) → P (cond b x y)
 if_cases = Rattle.ground.proofs.Laws.if_cases
 
 -- a field over 3 is read as 3

@@ -5,12 +5,16 @@
 mod tally;
 
 use cases::{Answered, Refusal};
-use libc::{STDERR_FILENO, STDIN_FILENO};
+use std::fs;
+use std::fs::File;
+use std::os::unix::fs::{FileExt, FileTypeExt};
 use tally::Tally;
 use texts::Text;
 
 // What a line on standard error begins with.
 const STEP: [u8; 11] = *b"qemu: step ";
+
+const STDERR_FILENO: i32 = 2;
 
 // Writes a line on standard error.
 fn tell(line: Text) {
@@ -50,20 +54,25 @@ fn replayed(stream: &[u8], out: &mut [u8]) -> Seen {
     }
 }
 
+// Standard input as a file that can be read at any place. A pipe and a socket are none.
+fn input(rt: &HostRuntime) -> Option<File> {
+    let kind = fs::metadata(rt, "/dev/stdin").ok()?.file_type();
+    if kind.is_fifo() || kind.is_socket() {
+        return None;
+    }
+    File::open(rt, "/dev/stdin").ok()
+}
+
 // Reads from a place on, as many bytes as a step can have, and replays the step that they open with.
-fn one_step(at: u64, stream: &mut [u8], out: &mut [u8]) -> Seen {
+fn one_step(input: &File, at: u64, stream: &mut [u8], out: &mut [u8]) -> Seen {
     if 0x7fff_ffff_ffff_ffff < at {
         return Seen::Unread;
     }
-    let got = libc::pread(STDIN_FILENO, stream, at as i64);
-    if got < 0 {
-        return Seen::Unread;
+    match input.read_at(stream, at) {
+        Err(_) => Seen::Unread,
+        Ok(0) => Seen::End,
+        Ok(n) => replayed(&stream[..n], out),
     }
-    let n = io::count(got, stream);
-    if n == 0 {
-        return Seen::End;
-    }
-    replayed(&stream[..n], out)
 }
 
 // How far the replay has come: what was seen, the next step's place and number, and whether to go on.
@@ -75,13 +84,18 @@ struct Progress {
     going: bool,
 }
 
+// Where standard input cannot be read at the places that a file has.
+fn unread(number: u64) {
+    tell(telling::line(&STEP, number, b"standard input is no file that can be read"));
+}
+
 // Replays the next step. The table is written at the end of the file, and not where it ends too early.
-fn turn(so_far: Progress, stream: &mut [u8], out: &mut [u8]) -> Progress {
+fn turn(input: &File, so_far: Progress, stream: &mut [u8], out: &mut [u8]) -> Progress {
     let number = so_far.number;
     let tally = so_far.tally;
     let mut next = so_far;
     next.going = false;
-    match one_step(so_far.at, stream, out) {
+    match one_step(input, so_far.at, stream, out) {
         Seen::Step(n, answer, same) => {
             return Progress {
                 tally: tally.with(number, answer, same),
@@ -92,18 +106,14 @@ fn turn(so_far: Progress, stream: &mut [u8], out: &mut [u8]) -> Progress {
         }
         Seen::Refused(why) => tell(telling::refused(&STEP, number, why)),
         Seen::NoOutcome => tell(telling::line(&STEP, number, b"the recorded outcome is cut short")),
-        Seen::Unread => tell(telling::line(
-            &STEP,
-            number,
-            b"standard input is no file that can be read",
-        )),
+        Seen::Unread => unread(number),
         Seen::End => tally.table(),
     }
     next
 }
 
 // Replays every step. A proved loop has to end, so it counts its turns down from a number that no run uses up.
-fn all_steps(stream: &mut [u8], out: &mut [u8]) {
+fn all_steps(input: &File, stream: &mut [u8], out: &mut [u8]) {
     let mut progress = Progress {
         tally: Tally::none(),
         at: 0,
@@ -112,7 +122,7 @@ fn all_steps(stream: &mut [u8], out: &mut [u8]) {
     };
     let mut turns = u64::MAX;
     while turns > 0 {
-        progress = turn(progress, stream, out);
+        progress = turn(input, progress, stream, out);
         if !progress.going {
             return;
         }
@@ -120,9 +130,14 @@ fn all_steps(stream: &mut [u8], out: &mut [u8]) {
     }
 }
 
-fn main() {
+fn main(rt: HostRuntime) {
+    let Some(input) = input(&rt) else {
+        unread(0);
+        return;
+    };
+
     // the longest case with its outcome: `longest_case` of crates/cases/proofs/Limits.antt
     let mut stream = [0u8; 465185];
     let mut out = [0u8; 66585];
-    all_steps(&mut stream, &mut out);
+    all_steps(&input, &mut stream, &mut out);
 }

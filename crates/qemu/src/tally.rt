@@ -1,5 +1,5 @@
 // What the program tells: each step that differs, and how many agree.
-use libc::STDOUT_FILENO;
+const STDOUT_FILENO: i32 = 1;
 
 // How many steps were recorded with each answer, and how many of them agree.
 #[derive(Clone, Copy)]

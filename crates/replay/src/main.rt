@@ -2,11 +2,15 @@
 #![tactic(auto)]
 
 use cases::{Answered, Opened, Refusal};
-use libc::{STDERR_FILENO, STDIN_FILENO, STDOUT_FILENO};
+use std::io::Read;
 use texts::Text;
 
 // What a line on standard error begins with.
 const CASE: [u8; 13] = *b"replay: case ";
+
+const STDOUT_FILENO: i32 = 1;
+
+const STDERR_FILENO: i32 = 2;
 
 // Writes a line on standard error.
 fn tell(line: Text) {
@@ -17,14 +21,14 @@ fn tell(line: Text) {
     }
 }
 
-// One read into a part of the buffer: how many bytes came, 0 at the end of the input, or less where it failed.
-fn read_some(stream: &mut [u8], from: usize, to: usize) -> isize {
+// One read into a part of the buffer: how many bytes came, 0 at the end of the input, or none where it failed.
+fn read_some(rt: &HostRuntime, stream: &mut [u8], from: usize, to: usize) -> Option<usize> {
     if to <= stream.len() {
         if from <= to {
-            return libc::read(STDIN_FILENO, &mut stream[from..to]);
+            return rt.stdin().read(&mut stream[from..to]).ok();
         }
     }
-    0
+    Some(0)
 }
 
 // What there is of a case: so many bytes, fewer than were wanted where the input ends; or standard input cannot be read.
@@ -35,21 +39,18 @@ enum Came {
 }
 
 // Reads on until so many bytes are there. A proved loop has to end; each turn brings a byte or ends it, so that these turns are enough.
-fn read_on(stream: &mut [u8], from: usize, to: usize) -> Came {
+fn read_on(rt: &HostRuntime, stream: &mut [u8], from: usize, to: usize) -> Came {
     let mut n = from;
     let mut turns = to;
     while turns > 0 {
         if to <= n {
             return Came::Bytes(n);
         }
-        let got = read_some(stream, n, to);
-        if got < 0 {
-            return Came::Unread;
+        match read_some(rt, stream, n, to) {
+            None => return Came::Unread,
+            Some(0) => return Came::Bytes(n),
+            Some(got) => n = std::num::wrapping_add_usize(n, got),
         }
-        if got == 0 {
-            return Came::Bytes(n);
-        }
-        n = std::num::wrapping_add_usize(n, io::count(got, stream));
         turns -= 1;
     }
     Came::Bytes(n)
@@ -89,8 +90,15 @@ fn answered(number: u64, stream: &[u8], n: usize, out: &mut [u8]) -> bool {
 }
 
 // Reads what is left of a case of which n bytes are there, and answers it.
-fn rest(number: u64, stream: &mut [u8], n: usize, whole: usize, out: &mut [u8]) -> bool {
-    match read_on(stream, n, whole) {
+fn rest(
+    rt: &HostRuntime,
+    number: u64,
+    stream: &mut [u8],
+    n: usize,
+    whole: usize,
+    out: &mut [u8],
+) -> bool {
+    match read_on(rt, stream, n, whole) {
         Came::Bytes(got) => answered(number, stream, got, out),
         Came::Unread => cannot_read(number),
     }
@@ -105,56 +113,63 @@ fn opened(stream: &[u8], n: usize) -> Opened {
 }
 
 // Reads the rest of a head that is longer than that of a step.
-fn longer_head(number: u64, stream: &mut [u8], out: &mut [u8]) -> bool {
-    match read_on(stream, 96, 136) {
+fn longer_head(rt: &HostRuntime, number: u64, stream: &mut [u8], out: &mut [u8]) -> bool {
+    match read_on(rt, stream, 96, 136) {
         Came::Unread => cannot_read(number),
         Came::Bytes(n) => match opened(stream, n) {
             Opened::Broken(why) => refuse(number, why),
-            Opened::Begins(_, whole) => rest(number, stream, n, whole, out),
+            Opened::Begins(_, whole) => rest(rt, number, stream, n, whole, out),
         },
     }
 }
 
 // Goes on where a head is refused. Of 96 bytes that it ends too early is said exactly where it is longer.
-fn refused_head(number: u64, stream: &mut [u8], n: usize, why: Refusal, out: &mut [u8]) -> bool {
+fn refused_head(
+    rt: &HostRuntime,
+    number: u64,
+    stream: &mut [u8],
+    n: usize,
+    why: Refusal,
+    out: &mut [u8],
+) -> bool {
     if n == 96 {
         if let Refusal::Ends = why {
-            return longer_head(number, stream, out);
+            return longer_head(rt, number, stream, out);
         }
     }
     refuse(number, why)
 }
 
 // Reads a case and answers it: first its head, which says how long it is, and then the rest.
-fn one_case(number: u64, stream: &mut [u8], out: &mut [u8]) -> bool {
-    match read_on(stream, 0, 96) {
+fn one_case(rt: &HostRuntime, number: u64, stream: &mut [u8], out: &mut [u8]) -> bool {
+    match read_on(rt, stream, 0, 96) {
         Came::Unread => cannot_read(number),
         Came::Bytes(n) => {
             if n == 0 {
                 return false;
             }
             match opened(stream, n) {
-                Opened::Broken(why) => refused_head(number, stream, n, why, out),
-                Opened::Begins(_, whole) => rest(number, stream, n, whole, out),
+                Opened::Broken(why) => refused_head(rt, number, stream, n, why, out),
+                Opened::Begins(_, whole) => rest(rt, number, stream, n, whole, out),
             }
         }
     }
 }
 
 // A proved loop has to end, and nothing says that the input does. So it counts up to a number that no run comes to.
-fn all_cases(stream: &mut [u8], out: &mut [u8]) {
+fn all_cases(rt: &HostRuntime, stream: &mut [u8], out: &mut [u8]) {
     let mut number = 0;
     while number < u64::MAX {
-        if !one_case(number, stream, out) {
+        if !one_case(rt, number, stream, out) {
             return;
         }
         number += 1;
     }
 }
 
-fn main() {
+fn main(rt: HostRuntime) {
     // the longest case, and the longest outcome: `longest_case` of crates/cases/proofs/Limits.antt
     let mut stream = [0u8; 398600];
     let mut out = [0u8; 66585];
-    all_cases(&mut stream, &mut out);
+    all_cases(&rt, &mut stream, &mut out);
 }

@@ -3,10 +3,10 @@ use Rattle.std.proofs.Common.{◌-◌, ◌≤◌, length, rules}
 use Rattle.binutils.proofs.report.Statement.{statement}
 use Rattle.binutils.proofs.report.Tie as tie
 
-abbrev invariant-loop : tie.invariant-loop
+abbrev invariant-loop : tie.invariant-loop-i
 invariant-loop form agree words i₀ row₀ i row = i ≤ length form
 
-abbrev decreases-loop : tie.decreases-loop
+abbrev decreases-loop : tie.decreases-loop-i
 decreases-loop form agree words i₀ row₀ i row = length form - i
 
 pub report_spec : {M : Type 1} → statement M

@@ -3,10 +3,10 @@ use Rattle.std.proofs.Common.{◌-◌, ◌≤◌, length, rules}
 use Rattle.binutils.proofs.lines.number.Statement.{statement}
 use Rattle.binutils.proofs.lines.number.Tie as tie
 
-abbrev invariant-loop : tie.invariant-loop
+abbrev invariant-loop : tie.invariant-loop-i
 invariant-loop digits word₀ i₀ word i = i ≤ length digits
 
-abbrev decreases-loop : tie.decreases-loop
+abbrev decreases-loop : tie.decreases-loop-i
 decreases-loop digits word₀ i₀ word i = length digits - i
 
 pub number_spec : {M : Type 1} → statement M

@@ -3,10 +3,10 @@ use Rattle.std.proofs.Common.{◌-◌, ◌≤◌, length, rules}
 use Rattle.binutils.proofs.printed.filled.Statement.{statement}
 use Rattle.binutils.proofs.printed.filled.Tie as tie
 
-abbrev invariant-loop : tie.invariant-loop
+abbrev invariant-loop : tie.invariant-loop-i
 invariant-loop form values t₀ i₀ next₀ t i next = i ≤ length form
 
-abbrev decreases-loop : tie.decreases-loop
+abbrev decreases-loop : tie.decreases-loop-i
 decreases-loop form values t₀ i₀ next₀ t i next = length form - i
 
 pub filled_spec : {M : Type 1} → statement M

@@ -3,10 +3,10 @@ use Rattle.std.proofs.Common.{◌≤◌, length, rules}
 use Rattle.readings.proofs.found.find.Statement.{statement}
 use Rattle.readings.proofs.found.find.Tie as tie
 
-abbrev invariant-loop : tie.invariant-loop
+abbrev invariant-loop : tie.invariant-loop-k
 invariant-loop area bits k₀ k = k ≤ length area
 
-abbrev decreases-loop : tie.decreases-loop
+abbrev decreases-loop : tie.decreases-loop-k
 decreases-loop area bits k₀ k = k
 
 pub find_spec : {M : Type 1} → statement M

@@ -3,10 +3,10 @@ use Rattle.std.proofs.Common.{rules}
 use Rattle.readings.proofs.found.lies.Statement.{statement}
 use Rattle.readings.proofs.found.lies.Tie as tie
 
-abbrev invariant-loop : tie.invariant-loop
+abbrev invariant-loop : tie.invariant-loop-left
 invariant-loop area k bits rest₀ at₀ left₀ rest at left = Unit {0}
 
-abbrev decreases-loop : tie.decreases-loop
+abbrev decreases-loop : tie.decreases-loop-left
 decreases-loop area k bits rest₀ at₀ left₀ rest at left = left
 
 pub lies_spec : {M : Type 1} → statement M

@@ -3,10 +3,10 @@ use Rattle.std.proofs.Common.{◌-◌, ◌≤◌, rules}
 use Rattle.readings.proofs.found.repeated.Statement.{statement}
 use Rattle.readings.proofs.found.repeated.Tie as tie
 
-abbrev invariant-loop : tie.invariant-loop
+abbrev invariant-loop : tie.invariant-loop-e
 invariant-loop z vl r width n unit e₀ e = unit ≤ e
 
-abbrev decreases-loop : tie.decreases-loop
+abbrev decreases-loop : tie.decreases-loop-e
 decreases-loop z vl r width n unit e₀ e = n - e
 
 pub repeated_spec : {M : Type 1} → statement M

@@ -3,10 +3,10 @@ use Rattle.std.proofs.Common.{◌-◌, rules}
 use Rattle.readings.proofs.found.zero_from.Statement.{statement}
 use Rattle.readings.proofs.found.zero_from.Tie as tie
 
-abbrev invariant-loop : tie.invariant-loop
+abbrev invariant-loop : tie.invariant-loop-e
 invariant-loop z vl r width n first e₀ e = Unit {0}
 
-abbrev decreases-loop : tie.decreases-loop
+abbrev decreases-loop : tie.decreases-loop-e
 decreases-loop z vl r width n first e₀ e = n - e
 
 pub zero_from_spec : {M : Type 1} → statement M

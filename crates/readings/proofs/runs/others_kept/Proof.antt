@@ -3,10 +3,10 @@ use Rattle.std.proofs.Common.{◌-◌, ◌≤◌, rules}
 use Rattle.readings.proofs.runs.others_kept.Statement.{statement}
 use Rattle.readings.proofs.runs.others_kept.Tie as tie
 
-abbrev invariant-loop : tie.invariant-loop
+abbrev invariant-loop : tie.invariant-loop-i
 invariant-loop now before i₀ i = i ≤ 32
 
-abbrev decreases-loop : tie.decreases-loop
+abbrev decreases-loop : tie.decreases-loop-i
 decreases-loop now before i₀ i = 32 - i
 
 pub others_kept_spec : {M : Type 1} → statement M

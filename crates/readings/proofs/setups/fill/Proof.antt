@@ -3,10 +3,10 @@ use Rattle.std.proofs.Common.{◌≡◌, ◌-◌, ◌≤◌, length, rules}
 use Rattle.readings.proofs.setups.fill.Statement.{statement}
 use Rattle.readings.proofs.setups.fill.Tie as tie
 
-abbrev invariant-loop : tie.invariant-loop
+abbrev invariant-loop : tie.invariant-loop-k
 invariant-loop s₀ tag k₀ s k = (k ≤ length s₀) × (length s ≡ length s₀)
 
-abbrev decreases-loop : tie.decreases-loop
+abbrev decreases-loop : tie.decreases-loop-k
 decreases-loop s₀ tag k₀ s k = length s₀ - k
 
 pub fill_spec : {M : Type 1} → statement M

@@ -3,10 +3,10 @@ use Rattle.std.proofs.Common.{◌≡◌, ◌-◌, ◌≤◌, length, rules}
 use Rattle.readings.proofs.setups.mark.Statement.{statement}
 use Rattle.readings.proofs.setups.mark.Tie as tie
 
-abbrev invariant-loop : tie.invariant-loop
+abbrev invariant-loop : tie.invariant-loop-byte
 invariant-loop s₀ at byte₀ k₀ s byte k = (byte ≤ 8) × (length s ≡ length s₀)
 
-abbrev decreases-loop : tie.decreases-loop
+abbrev decreases-loop : tie.decreases-loop-byte
 decreases-loop s₀ at byte₀ k₀ s byte k = 8 - byte
 
 pub mark_spec : {M : Type 1} → statement M

@@ -3,10 +3,10 @@ use Rattle.std.proofs.Common.{◌-◌, ◌≤◌, rules}
 use Rattle.readings.proofs.setups.scalars.Statement.{statement}
 use Rattle.readings.proofs.setups.scalars.Tie as tie
 
-abbrev invariant-loop : tie.invariant-loop
+abbrev invariant-loop : tie.invariant-loop-i
 invariant-loop x0 x₀ i₀ x i = i ≤ 33
 
-abbrev decreases-loop : tie.decreases-loop
+abbrev decreases-loop : tie.decreases-loop-i
 decreases-loop x0 x₀ i₀ x i = 33 - i
 
 pub scalars_spec : {M : Type 1} → statement M
