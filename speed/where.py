@@ -17,6 +17,7 @@ import struct
 import subprocess
 import sys
 from pathlib import Path
+from tempfile import TemporaryDirectory
 
 LANE_TEST = "bench::actives::bit_is_set"
 LIBRARY = Path("target/staticlib/libhosts.a")
@@ -64,21 +65,24 @@ def linked(kit: Path, seen: Path, *roads: tuple[str, ...]) -> None:
 
 def module(folder: Path) -> tuple[Path, list[str]]:
     """The kit's compiler and the words that it compiles FOLDER/module.bc with."""
-    kit = Path(run("rt", "doc").strip()).parent
-    folder = folder.resolve()
-    seen, road = folder / "kit", ("toolchain", "bin", "clang")
+    kit, road = Path(run("rt", "doc").strip()).parent, ("toolchain", "bin", "clang")
     # rt looks for all else beside where its own files truly lie
     own = [("bin", "rt"), ("bin", "rtlib.py")]
-    compiler, catcher = kit.joinpath(*road), seen.joinpath(*road)
-    linked(kit, seen, road, *own)
-    for file in own:
-        shutil.copy2(kit.joinpath(*file), seen.joinpath(*file))
-    catcher.write_text(CATCHER.format(folder=shlex.quote(str(folder)), compiler=shlex.quote(str(compiler))))
-    catcher.chmod(0o755)
-    run(seen / "bin" / "rt", "lib", cwd=CRATE)
+    compiler, here = kit.joinpath(*road), shlex.quote(str(folder.resolve()))
+    # elsewhere, since rt ci takes no links below its repository
+    with TemporaryDirectory(prefix="kjolvast-kit-") as room:
+        seen = Path(room) / "kit"
+        catcher = seen.joinpath(*road)
+        linked(kit, seen, road, *own)
+        for file in own:
+            shutil.copy2(kit.joinpath(*file), seen.joinpath(*file))
+        catcher.write_text(CATCHER.format(folder=here, compiler=shlex.quote(str(compiler))))
+        catcher.chmod(0o755)
+        run(seen / "bin" / "rt", "lib", cwd=CRATE)
     if not (folder / "module.bc").exists():
         raise Trouble("the kit's compiler was handed no module.bc")
-    return compiler, (folder / "words").read_text().splitlines()
+    words = (folder / "words").read_text().splitlines()
+    return compiler, [f"--sysroot={compiler.parents[1]}" if word.startswith("--sysroot=") else word for word in words]
 
 
 # ---- a place for each instruction
