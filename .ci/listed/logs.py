@@ -17,7 +17,7 @@ FACT = re.compile(
     r"|`grind`: the goal does not follow"
     r"|expected type `|(?:as printed|computed as far as they go), the two (?:types|sides|indices) |.*\bdoes not hold \(this comparison"
     r"|`rw`: no (?:part of the goal|occurrence of the path's (?:left|right) endpoint in the) "
-    r"|`simp`: no equation of the list has an instance where it is tried in "
+    r"|`simp`: no equation of the list has an instance (?:in the goal|where it is tried in) "
     r"|`(?:rw|simp)` has no last argument, so what it leaves must be a path whose two ends are equal)", re.M
 )
 

@@ -58,8 +58,8 @@ def argument_need(proof, place, clause, tie):
 
 
 def declared_need(proof, name, tie):
-    """The need that a declaration of a proof by hand is for, by its name there."""
-    new = dict(tie["needs"]).get(name)
+    """The need that a declaration of a proof by hand is for, by either of its names: the prover takes both there."""
+    new = {**dict(tie["needs"]), **{new: new for _, new in tie["needs"]}}.get(name)
     if new is None:
         raise Unfit(f"{proof} does not fit: the function has no need {name}")
     return new
