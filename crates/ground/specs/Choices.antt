@@ -1,5 +1,5 @@
 -- A choice by a test, a row of tests, and a table whose first fitting row counts.
-use Rattle.std.specs.Prelude.{if◌then◌else◌, Bool, true, false, ◌&&◌, List, [], ◌∷◌}
+use Rattle.std.specs.Prelude.{if◌then◌else◌, Bool, true, ◌&&◌, List, [], ◌∷◌}
 
 infix 20 ◌⇒◌
 -- t and every test after it, joined from the left as `t & u & ..` is

@@ -17,7 +17,7 @@ use Rattle.lanes.specs.Said.{WidthFor, There, lane_byte, AsFloat, AsAsked, OfFor
 use Rattle.lanes.specs.declared.Kind.{Kind}
 use Rattle.lanes.specs.declared.Kind.TheVariants as As
 use Rattle.lanes.specs.declared.Shown.{Shown}
-use Rattle.lanes.specs.declared.Shown.TheVariants.{Single, Double, Whole, NoLane}
+use Rattle.lanes.specs.declared.Shown.TheVariants.{Whole, NoLane}
 use Rattle.lanes.proofs.Patterns.{of_nan, of_float, bits_kept}
 use Rattle.lanes.proofs.Tests.{there_exactly}
 use Rattle.lanes.proofs.Places.{bytes, lane_fitting}

@@ -1,6 +1,6 @@
 -- What can be computed of a case: a comparison that holds says that the two are equal, so that the readings can be settled by computing it; and a bench
 -- whose numbers are small enough is one that can come in.
-use Rattle.std.proofs.Common.{◌≡◌, ℕ, ◌^◌, Bool, true, false, eqb, ltb, List, [], ◌∷◌, sym, refl, ltb-true, eqb-true}
+use Rattle.std.proofs.Common.{◌≡◌, ℕ, ◌^◌, Bool, true, false, ltb, List, [], ◌∷◌, sym, refl, ltb-true, eqb-true}
 use borrow.Author.Tests.{not-true}
 use Rattle.ground.specs.Choices.{all_of}
 use Rattle.ground.proofs.Laws.{and_left, and_right, all, all_of_lem, alike_same, each_below}

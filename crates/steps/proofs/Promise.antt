@@ -1,5 +1,5 @@
 -- The promise of a step leaves nothing open, and can be met.
-use mathlib.Core.Path.{◌≡◌, refl, ap}
+use mathlib.Core.Path.{◌≡◌, ap}
 use Prim.Native.Nat.{ℕ}
 use Rattle.ground.proofs.Laws.{only_one}
 use Rattle.steps.specs.Benches.{Lent, Bench, InTypes}

@@ -41,8 +41,8 @@ returns c =
     let t = c.type_inv in
     let types = came c.ranges.word.fits t.z t.p t.x t.flash t.flash_rights t.ram t.ram_rights in
     elim c.if-files_accepted.branch [
-      then-files_accepted+else-areas_accepted w ↦ set_up _ _ _ types
-      (accepts _ _ 0 _ _ c.files_accepted.ensures w.areas_accepted.ensures ∙ rw (w.if-files_accepted.true, w.if-areas_accepted.false)) _ c.ended.ensures
-    | else-files_accepted w ↦ set_up _ _ _ types
-      (accepts _ _ 0 _ _ c.files_accepted.ensures refl ∙ rw w.if-files_accepted.false) _ c.ended.ensures
+      | then-files_accepted+else-areas_accepted w ↦ set_up _ _ _ types
+          (accepts _ _ 0 _ _ c.files_accepted.ensures w.areas_accepted.ensures ∙ rw (w.if-files_accepted.true, w.if-areas_accepted.false)) _ c.ended.ensures
+      | else-files_accepted w ↦ set_up _ _ _ types
+          (accepts _ _ 0 _ _ c.files_accepted.ensures refl ∙ rw w.if-files_accepted.false) _ c.ended.ensures
     ]

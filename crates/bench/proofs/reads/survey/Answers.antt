@@ -18,8 +18,8 @@ loop-e-preserved c =
     let s = c.loop-e.invariant in
     let more = c.loop-e-test.true in
     elim c.if-asks.branch [
-      then-asks+in-Value w ↦ rw w.count-is (read_turn s more (sym c.asks.ensures ∙ w.if-asks.true) _ (sym w.element.ensures ∙ w.in-Value.is))
-    | else-asks w ↦ rw w.count-is (pass_turn s more (sym c.asks.ensures ∙ w.if-asks.false))
+      | then-asks+in-Value w ↦ rw w.count-is (read_turn s more (sym c.asks.ensures ∙ w.if-asks.true) _ (sym w.element.ensures ∙ w.in-Value.is))
+      | else-asks w ↦ rw w.count-is (pass_turn s more (sym c.asks.ensures ∙ w.if-asks.false))
     ]
 
 pub returns : goal.returns

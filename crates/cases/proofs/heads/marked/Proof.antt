@@ -5,7 +5,6 @@ use mathlib.Core.List.{List}
 use Prim.Native.Nat.{ℕ, ◌/◌, ◌%◌}
 use borrow.Author.Tests.{lt-ltb, le-ltb}
 use lib.Dec.{ltb}
-use lib.ListN.{length}
 use Rattle.ground.specs.Lists.{bytes_at}
 use Rattle.cases.specs.Parts.{head_bytes}
 use Rattle.cases.specs.Heads.{flags_in, kind_of, strange_flag, strange_kind, marked_of}

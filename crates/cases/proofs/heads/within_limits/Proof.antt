@@ -1,9 +1,7 @@
 -- `within_limits` meets its contract: its tests are the definition's, in their order.
-use mathlib.Core.Path.{◌≡◌}
 use native.Mathlib.Omega.{arith}
 use Prim.Native.Nat.{◌≤◌}
 use borrow.Author.Tests.{lt-ltb, le-ltb}
-use Rattle.cases.specs.Parts.{head_bytes}
 use Rattle.cases.specs.Heads.{limited}
 use Rattle.cases.specs.declared.heads.Case.{Case}
 use Rattle.cases.proofs.Limits.{Bounds, all_short, head_most}
