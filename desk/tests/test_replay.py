@@ -4,7 +4,6 @@ docs/CASES.md by hand, or from the second interpreter."""
 import os
 import pty
 import resource
-import signal
 import socket
 import subprocess
 import tempfile
@@ -60,13 +59,14 @@ class Outputs(Benches):
                 self.assertEqual((ran.returncode, ran.stderr, file.read()), (0, told(3, UNWRITTEN), wanted[:limit]))
 
     def test_nobody_reads(self) -> None:
-        for ignored, status, line in ((True, 0, told(0, UNWRITTEN)), (False, -signal.SIGPIPE, b"")):
+        """It is told, and no signal ends the program: what starts it ignores SIGPIPE, whether or not its caller does."""
+        for ignored in (True, False):
             reader, writer = os.pipe()
             os.close(reader)
             # Python ignores SIGPIPE, and has it back as it was for a program only if asked
             ran = run(input=SMALL, stdout=writer, restore_signals=not ignored)
             os.close(writer)
-            self.assertEqual((ran.returncode, ran.stderr), (status, line))
+            self.assertEqual((ran.returncode, ran.stderr), (0, told(0, UNWRITTEN)))
 
     def test_standard_output_is_closed(self) -> None:
         ran = subprocess.run(["sh", "-c", 'exec "$0" >&-', str(REPLAY)], input=SMALL, stderr=subprocess.PIPE, timeout=60)
