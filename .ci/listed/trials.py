@@ -29,8 +29,11 @@ class Stopped(Exception):
 
 def rt(folder, *words):
     """Runs rt in a folder; its status, and what it said."""
-    ran = subprocess.run(["rt", *words], cwd=folder, stdin=subprocess.DEVNULL, stdout=subprocess.PIPE, stderr=subprocess.STDOUT,
-                         encoding="utf-8", errors="replace")
+    try:
+        ran = subprocess.run(["rt", *words], cwd=folder, stdin=subprocess.DEVNULL, stdout=subprocess.PIPE, stderr=subprocess.STDOUT,
+                             encoding="utf-8", errors="replace")
+    except OSError as trouble:
+        raise Stopped(f"rt cannot be run in {folder}: {trouble.strerror}") from trouble
     return ran.returncode, ran.stdout
 
 
@@ -44,36 +47,34 @@ def side_by_side():
 
 
 def linked(one, other):
-    """Copies a file that was proved by a link: a check replaces such a file, and changes none."""
-    os.link(one, other) if one.endswith(".oantt") else shutil.copy2(one, other)
+    """Copies a file, one that was proved by a link where that can be: a check replaces such a file, and changes none."""
+    try:
+        if one.endswith(".oantt"):
+            return os.link(one, other)
+    except OSError:
+        pass
+    return shutil.copy2(one, other)
 
 
 def copied(one, other, copy=shutil.copy2):
+    """Copies a folder, where it is there."""
     if os.path.isdir(one):
         shutil.copytree(one, other, copy_function=copy)
-
-
-def linked_or_copied(one, other):
-    try:
-        linked(one, other)
-    except OSError:
-        shutil.copy2(one, other)
 
 
 def make_room(root, room, crate, crates):
     """A folder for tries of a crate's edits: a repository with that crate and what it rests on."""
     os.makedirs(f"{room}/.git")
-    for name in ("crates.txt", "HANDLES"):
-        if os.path.isfile(f"{root}/{name}"):
-            shutil.copy2(f"{root}/{name}", room)
+    if os.path.isfile(f"{root}/HANDLES"):
+        shutil.copy2(f"{root}/HANDLES", room)
     for other in {crate} | holding.rests_on(crate, crates):
         for part in edits.PARTS:
             copied(f"{root}/crates/{other}/{part}", f"{room}/crates/{other}/{part}")
         if other != crate:
-            copied(f"{root}/crates/{other}/out/rlib", f"{room}/crates/{other}/out/rlib", linked_or_copied)
-    with open(f"{room}/crates.txt", "w", encoding="utf-8") as file:
-        lines = open(f"{root}/crates.txt", encoding="utf-8").read().splitlines()
-        file.writelines(f"{line}\n" for line in lines if os.path.isdir(f"{room}/crates/{line.split(':')[0].split(' ')[0]}"))
+            copied(f"{root}/crates/{other}/out/rlib", f"{room}/crates/{other}/out/rlib", linked)
+    with open(f"{root}/crates.txt", encoding="utf-8") as file:
+        lines = [line for line in file if set(crate_lines(line)) & ({crate} | holding.rests_on(crate, crates))]
+    put(room, "crates.txt", "".join(lines))
 
 
 def put(root, path, text):
@@ -89,7 +90,7 @@ def try_one(root, room, edit, made, version):
         shutil.rmtree(f"{here}/{part}", ignore_errors=True)
     for path, text in made.items():
         put(here, path, text)
-    copied(f"{root}/crates/{edit.crate}/{WORK}", f"{here}/{WORK}", linked_or_copied)
+    copied(f"{root}/crates/{edit.crate}/{WORK}", f"{here}/{WORK}", linked)
     status, said = rt(here, "check", "--jobs", "1")
     shutil.rmtree(f"{root}/{edit.log}", ignore_errors=True)
     for path, text in made.items():
