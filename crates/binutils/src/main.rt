@@ -8,9 +8,7 @@ mod search;
 
 use lines::Line;
 use search::{find, part};
-use std::fs;
-use std::fs::File;
-use std::os::unix::fs::{FileExt, FileTypeExt};
+use std::io::Read;
 use texts::Text;
 use words::{Back, Decoded, Insn, Offset, Shape};
 
@@ -24,11 +22,13 @@ const ROWS: usize = 18;
 // The last row, which is of all words.
 const ALL: usize = ROWS - 1;
 
-// How far the input is read: where the next line begins, and its number; whether to read on, and whether every line was in the form.
+// How far the input is read: how many bytes of the window are read, and how many of these the last line has, with its end; the next
+// line's number; whether to read on, and whether every line was in the form.
 // Then for each row of the table how many words are such, and how many of these agree.
 #[derive(Clone, Copy)]
 struct Run {
-    at: u64,
+    read: usize,
+    taken: usize,
     line: u64,
     open: bool,
     sound: bool,
@@ -132,9 +132,9 @@ fn compared(run: Run, word: u32, line: &[u8]) -> Run {
     }
     let words = run.words;
     let agree = run.agree;
-    let end = std::num::wrapping_add_u64(run.at, line.len() as u64);
     Run {
-        at: std::num::wrapping_add_u64(end, 1),
+        read: run.read,
+        taken: std::num::wrapping_add_usize(line.len(), 1),
         line: std::num::wrapping_add_u64(run.line, 1),
         open: true,
         sound: true,
@@ -170,51 +170,78 @@ fn first_line(run: Run, bytes: &[u8]) -> Run {
     }
 }
 
-// Where standard input cannot be read at the places that a file has.
+// Where standard input cannot be read.
 fn unread(run: Run) -> Run {
     refused(run, b" cannot be read: standard input must be a file\n")
 }
 
-// Standard input as a file that can be read at any place. A pipe and a socket are none.
-fn input(rt: &HostRuntime) -> Option<File> {
-    let kind = fs::metadata(rt, "/dev/stdin").ok()?.file_type();
-    if kind.is_fifo() || kind.is_socket() {
-        return None;
+// One read behind the n bytes that are there: how many came, or none where it failed.
+fn read_some(rt: &HostRuntime, window: &mut [u8], n: usize) -> Option<usize> {
+    if n <= window.len() {
+        return rt.stdin().read(&mut window[n..]).ok();
     }
-    File::open(rt, "/dev/stdin").ok()
+    Some(0)
 }
 
-// Reads on at the place where the next line begins, so that no byte has to be kept for the next turn.
-fn turn(input: &File, run: Run) -> Run {
-    let mut buf = [0u8; 128];
-    let at = run.at % 0x8000_0000_0000_0000;
-    match input.read_at(&mut buf, at) {
-        Err(_) => unread(run),
-        Ok(0) => {
-            let mut end = run;
-            end.open = false;
-            end
+// Reads on until the window is full or the input ends: how many bytes are there then, or none where it cannot be read. Each turn brings a
+// byte or ends it, so that these turns are enough.
+fn read_on(rt: &HostRuntime, window: &mut [u8], from: usize) -> Option<usize> {
+    let mut n = from;
+    for _ in 0..window.len() {
+        if window.len() <= n {
+            return Some(n);
         }
-        Ok(n) => first_line(run, &buf[..n]),
+        match read_some(rt, window, n)? {
+            0 => return Some(n),
+            got => n = std::num::wrapping_add_usize(n, got),
+        }
+    }
+    Some(n)
+}
+
+// Moves what lies behind so many bytes to the front, and answers how many bytes that are.
+fn behind(window: &mut [u8], taken: usize, n: usize) -> usize {
+    if n <= window.len() {
+        if taken <= n {
+            window.copy_within(taken..n, 0);
+            return n - taken;
+        }
+    }
+    0
+}
+
+// Reads on behind the last line, and compares the next one.
+fn turn(rt: &HostRuntime, run: Run, window: &mut [u8]) -> Run {
+    let kept = behind(window, run.taken, run.read);
+    let mut next = run;
+    match read_on(rt, window, kept) {
+        None => unread(run),
+        Some(0) => {
+            next.open = false;
+            next
+        }
+        Some(n) => {
+            next.read = n;
+            first_line(next, part(window, 0, n))
+        }
     }
 }
 
 // Reads to the end. A loop has to end, and nothing says that a file does, so the turns are counted down from a number that no run uses up.
 fn all(rt: &HostRuntime) -> Run {
     let mut run = Run {
-        at: 0,
+        read: 0,
+        taken: 0,
         line: 1,
         open: true,
         sound: true,
         words: [0; ROWS],
         agree: [0; ROWS],
     };
-    let Some(input) = input(rt) else {
-        return unread(run);
-    };
+    let mut window = [0u8; 128];
     let mut turns = u64::MAX;
     while turns > 0 && run.open {
-        run = turn(&input, run);
+        run = turn(rt, run, &mut window);
         turns -= 1;
     }
     run

@@ -5,9 +5,7 @@
 mod tally;
 
 use cases::{Answered, Refusal};
-use std::fs;
-use std::fs::File;
-use std::os::unix::fs::{FileExt, FileTypeExt};
+use std::io::Read;
 use tally::Tally;
 use texts::Text;
 
@@ -54,75 +52,103 @@ fn replayed(stream: &[u8], out: &mut [u8]) -> Seen {
     }
 }
 
-// Standard input as a file that can be read at any place. A pipe and a socket are none.
-fn input(rt: &HostRuntime) -> Option<File> {
-    let kind = fs::metadata(rt, "/dev/stdin").ok()?.file_type();
-    if kind.is_fifo() || kind.is_socket() {
-        return None;
+// One read behind the n bytes that are there: how many came, or none where it failed.
+fn read_some(rt: &HostRuntime, stream: &mut [u8], n: usize) -> Option<usize> {
+    if n <= stream.len() {
+        return rt.stdin().read(&mut stream[n..]).ok();
     }
-    File::open(rt, "/dev/stdin").ok()
+    Some(0)
 }
 
-// Reads from a place on, as many bytes as a step can have, and replays the step that they open with.
-fn one_step(input: &File, at: u64, stream: &mut [u8], out: &mut [u8]) -> Seen {
-    if 0x7fff_ffff_ffff_ffff < at {
-        return Seen::Unread;
+// Reads on until the buffer is full or the input ends: how many bytes are there then, or none where it cannot be read. Each turn brings a
+// byte or ends it, so that these turns are enough.
+fn read_on(rt: &HostRuntime, stream: &mut [u8], from: usize) -> Option<usize> {
+    let mut n = from;
+    for _ in 0..stream.len() {
+        if stream.len() <= n {
+            return Some(n);
+        }
+        match read_some(rt, stream, n)? {
+            0 => return Some(n),
+            got => n = std::num::wrapping_add_usize(n, got),
+        }
     }
-    match input.read_at(stream, at) {
-        Err(_) => Seen::Unread,
-        Ok(0) => Seen::End,
-        Ok(n) => replayed(&stream[..n], out),
-    }
+    Some(n)
 }
 
-// How far the replay has come: what was seen, the next step's place and number, and whether to go on.
+// Moves what lies behind a step of so many bytes to the front, and answers how many bytes that are.
+fn behind(stream: &mut [u8], end: usize, n: usize) -> usize {
+    if n <= stream.len() {
+        if end <= n {
+            stream.copy_within(end..n, 0);
+            return n - end;
+        }
+    }
+    0
+}
+
+// Reads on, as many bytes as a step can have, and replays the step that they open with. Answers how many bytes are there, too.
+fn one_step(rt: &HostRuntime, from: usize, stream: &mut [u8], out: &mut [u8]) -> (usize, Seen) {
+    let Some(n) = read_on(rt, stream, from) else {
+        return (from, Seen::Unread);
+    };
+    if n == 0 {
+        return (n, Seen::End);
+    }
+    if n <= stream.len() {
+        return (n, replayed(&stream[..n], out));
+    }
+    (n, Seen::Unread)
+}
+
+// How far the replay has come: what was seen, how many bytes of what is next are read, the next step's number, and whether to go on.
 #[derive(Clone, Copy)]
 struct Progress {
     tally: Tally,
-    at: u64,
+    read: usize,
     number: u64,
     going: bool,
 }
 
-// Where standard input cannot be read at the places that a file has.
-fn unread(number: u64) {
-    tell(telling::line(&STEP, number, b"standard input is no file that can be read"));
-}
-
 // Replays the next step. The table is written at the end of the file, and not where it ends too early.
-fn turn(input: &File, so_far: Progress, stream: &mut [u8], out: &mut [u8]) -> Progress {
+fn turn(rt: &HostRuntime, so_far: Progress, stream: &mut [u8], out: &mut [u8]) -> Progress {
     let number = so_far.number;
     let tally = so_far.tally;
     let mut next = so_far;
     next.going = false;
-    match one_step(input, so_far.at, stream, out) {
-        Seen::Step(n, answer, same) => {
+    let (n, seen) = one_step(rt, so_far.read, stream, out);
+    match seen {
+        Seen::Step(end, answer, same) => {
             return Progress {
                 tally: tally.with(number, answer, same),
-                at: std::num::wrapping_add_u64(so_far.at, n as u64),
+                read: behind(stream, end, n),
                 number: std::num::wrapping_add_u64(number, 1),
                 going: true,
             };
         }
         Seen::Refused(why) => tell(telling::refused(&STEP, number, why)),
         Seen::NoOutcome => tell(telling::line(&STEP, number, b"the recorded outcome is cut short")),
-        Seen::Unread => unread(number),
+        Seen::Unread => tell(telling::line(
+            &STEP,
+            number,
+            b"standard input is no file that can be read",
+        )),
         Seen::End => tally.table(),
     }
     next
 }
 
 // Replays every step. A proved loop has to end, so it counts its turns down from a number that no run uses up.
-fn all_steps(input: &File, stream: &mut [u8], out: &mut [u8]) {
+fn all_steps(rt: &HostRuntime, stream: &mut [u8], out: &mut [u8]) {
     let mut progress = Progress {
         tally: Tally::none(),
-        at: 0,
+        read: 0,
         number: 0,
         going: true,
     };
     let mut turns = u64::MAX;
     while turns > 0 {
-        progress = turn(input, progress, stream, out);
+        progress = turn(rt, progress, stream, out);
         if !progress.going {
             return;
         }
@@ -131,13 +157,8 @@ fn all_steps(input: &File, stream: &mut [u8], out: &mut [u8]) {
 }
 
 fn main(rt: HostRuntime) {
-    let Some(input) = input(&rt) else {
-        unread(0);
-        return;
-    };
-
     // the longest case with its outcome: `longest_case` of crates/cases/proofs/Limits.antt
     let mut stream = [0u8; 465185];
     let mut out = [0u8; 66585];
-    all_steps(&input, &mut stream, &mut out);
+    all_steps(&rt, &mut stream, &mut out);
 }

@@ -9,11 +9,11 @@ use Rattle.memory.proofs.bytes_from.Statement.{statement}
 use Rattle.memory.proofs.bytes_from.Tie as tie
 
 abbrev invariant-loop : tie.invariant-loop-i
-invariant-loop map flash flash-rights ram ram-rights n here₀ value₀ i₀ here value i =
-    SoFar (look_of (areas_of map flash flash-rights ram ram-rights)) here₀.0 n here.0 value i
+invariant-loop map flash flash_rights ram ram_rights n here₀ value₀ i₀ here value i =
+    SoFar (look_of (areas_of map flash flash_rights ram ram_rights)) here₀.0 n here.0 value i
 
 abbrev decreases-loop : tie.decreases-loop-i
-decreases-loop map flash flash-rights ram ram-rights n here₀ value₀ i₀ here value i = n - i
+decreases-loop map flash flash_rights ram ram_rights n here₀ value₀ i₀ here value i = n - i
 
 -- the function's entry, from within a turn
 abbrev G : tie.In-loop-i invariant-loop decreases-loop → tie.Start invariant-loop decreases-loop

@@ -12,11 +12,11 @@ use Rattle.bench.proofs.chunks.chunks.Statement.{statement}
 use Rattle.bench.proofs.chunks.chunks.Tie as tie
 
 abbrev invariant-loop : tie.invariant-loop-c
-invariant-loop dst₀ stretch bits stride own signed size width chunk-stride on₀ c₀ dst on c =
+invariant-loop dst₀ stretch bits stride own signed size width chunk_stride on₀ c₀ dst on c =
     (c ≤ own) × (on ≡ many (λ l. bit_of bits (l * width)) 0 (c * (8 / width))) × Filled (byte_from stretch 0 bits stride signed size width) 8 (length dst₀) dst c
 
 abbrev decreases-loop : tie.decreases-loop-c
-decreases-loop dst₀ stretch bits stride own signed size width chunk-stride on₀ c₀ dst on c = own - c
+decreases-loop dst₀ stretch bits stride own signed size width chunk_stride on₀ c₀ dst on c = own - c
 
 -- in a turn: the function's entry, the chunk, and its room in the register
 module _ (t : tie.In-loop-c invariant-loop decreases-loop) where

@@ -11,11 +11,11 @@ use Rattle.bench.proofs.fills.fill.Statement.{statement}
 use Rattle.bench.proofs.fills.fill.Tie as tie
 
 abbrev invariant-loop : tie.invariant-loop-l
-invariant-loop dst₀ map flash flash-rights ram ram-rights pred plan j width lanes l₀ dst l =
-    (l ≤ lanes) × Filled (register_byte (answers_in (areas_of map flash flash-rights ram ram-rights) plan) plan pred j) width (length dst₀) dst l
+invariant-loop dst₀ map flash flash_rights ram ram_rights pred plan j width lanes l₀ dst l =
+    (l ≤ lanes) × Filled (register_byte (answers_in (areas_of map flash flash_rights ram ram_rights) plan) plan pred j) width (length dst₀) dst l
 
 abbrev decreases-loop : tie.decreases-loop-l
-decreases-loop dst₀ map flash flash-rights ram ram-rights pred plan j width lanes l₀ dst l = lanes - l
+decreases-loop dst₀ map flash flash_rights ram ram_rights pred plan j width lanes l₀ dst l = lanes - l
 
 -- within a turn: the function's entry, and room for the lane
 module _ (t : tie.In-loop-l invariant-loop decreases-loop) where

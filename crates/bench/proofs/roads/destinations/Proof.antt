@@ -10,11 +10,11 @@ use Rattle.bench.proofs.roads.destinations.Statement.{statement}
 use Rattle.bench.proofs.roads.destinations.Tie as tie
 
 abbrev invariant-loop : tie.invariant-loop-j
-invariant-loop z₀ n map flash flash-rights ram ram-rights pred plan count all j₀ z j =
-    (j ≤ all) × (length z ≡ length z₀) × (z ≡ vectors_after (answers_in (areas_of map flash flash-rights ram ram-rights) plan) plan pred n z₀ j)
+invariant-loop z₀ n map flash flash_rights ram ram_rights pred plan count all j₀ z j =
+    (j ≤ all) × (length z ≡ length z₀) × (z ≡ vectors_after (answers_in (areas_of map flash flash_rights ram ram_rights) plan) plan pred n z₀ j)
 
 abbrev decreases-loop : tie.decreases-loop-j
-decreases-loop z₀ n map flash flash-rights ram ram-rights pred plan count all j₀ z j = all - j
+decreases-loop z₀ n map flash flash_rights ram ram_rights pred plan count all j₀ z j = all - j
 
 -- within a turn: the destination is one of the load's
 there : (t : tie.In-loop-j invariant-loop decreases-loop)

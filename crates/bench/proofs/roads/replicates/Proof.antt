@@ -9,12 +9,12 @@ use Rattle.bench.proofs.roads.replicates.Statement.{statement}
 use Rattle.bench.proofs.roads.replicates.Tie as tie
 
 abbrev invariant-loop : tie.invariant-loop-j
-invariant-loop z₁ n stretch plan element-bytes end j₀ z j =
+invariant-loop z₁ n stretch plan element_bytes end j₀ z j =
     (j ≤ plan.elements) × (length z ≡ length z₁)
     × ((pred z₀ : List ℕ) → z₁ ≡ vectors_after (answers_from stretch plan) plan pred n z₀ 1 → z ≡ vectors_after (answers_from stretch plan) plan pred n z₀ j)
 
 abbrev decreases-loop : tie.decreases-loop-j
-decreases-loop z₁ n stretch plan element-bytes end j₀ z j = plan.elements - j
+decreases-loop z₁ n stretch plan element_bytes end j₀ z j = plan.elements - j
 
 pub replicates_spec : {M : Type 1} → statement M
 unfolding vectors_after
