@@ -2,6 +2,7 @@
 
 import fcntl
 import os
+import re
 import resource
 import subprocess
 import sys
@@ -15,7 +16,13 @@ from desk.complaints import Trouble
 
 ROOT = Path(__file__).resolve().parent.parent
 PROGRAM = "replay"
-BINARY = ROOT / "target" / "bin" / PROGRAM
+FOLDER = ROOT / "crates" / PROGRAM
+BINARY = FOLDER / "out" / PROGRAM
+BY = f"'rt run' in crates/{PROGRAM}"
+# of what rt says of each crate, its name and the verdict; and the lines that tell of trouble
+REPORT = re.compile(r"crate (\w+): modules ")
+PROVED = "logic=proved "
+TROUBLE = re.compile(r"rt: (?!chose |running |nothing has changed)|fn \S+: (?:not proved|no proof)|\S+: error")
 SECONDS = 60
 # more than the longest outcome
 MOST_SAID = 2**20
@@ -27,7 +34,7 @@ def crates_behind(name: str) -> set[str]:
     for line in (ROOT / "crates.txt").read_text().splitlines():
         if ":" in line and not line.startswith("#"):
             crate, behind = line.split(":", 1)
-            needs[crate.strip()] = behind.split()
+            needs[crate.split()[0]] = behind.split()
     found: set[str] = set()
     ahead = [name]
     while ahead:
@@ -70,23 +77,29 @@ def build() -> None:
 
 
 def prove() -> None:
-    """Runs `rt check`, telling each crate as it is proved, since this takes minutes."""
-    begun = time.monotonic()
-    say(f"proving and building the program '{PROGRAM}' by 'rt check {PROGRAM}': once, some 2 to 5 minutes")
-    said = []
+    """Runs `rt run`, telling each crate as it is proved, since this takes minutes. The program is run at its end, on no case at all."""
+    begun = before = time.monotonic()
+    say(f"proving and building the program '{PROGRAM}' by {BY}: once, some 2 to 5 minutes")
+    said, crate = [], PROGRAM
+    if not FOLDER.is_dir():
+        raise FileNotFoundError(2, "No such file or directory", str(FOLDER))
+    piped = {"stdin": subprocess.DEVNULL, "stdout": subprocess.PIPE, "stderr": subprocess.STDOUT}
     try:
-        running = subprocess.Popen(["rt", "check", PROGRAM], cwd=ROOT, stdout=subprocess.PIPE, stderr=subprocess.STDOUT, text=True, errors="replace")
+        running = subprocess.Popen(["rt", "run"], cwd=FOLDER, text=True, errors="replace", **piped)
     except OSError as error:
         raise Trouble(f"the Rattle kit's command 'rt', which builds the proved program, cannot be run: {error.strerror}") from None
     with running:
         assert running.stdout is not None
         for line in running.stdout:
             said.append(line)
-            if line.startswith("rt: ") and " proved (" in line:
-                say(f"  {line[4:].strip()}")
+            if found := REPORT.match(line):
+                crate = found[1]
+            elif line.startswith(PROVED):
+                say(f"  {crate} proved ({time.monotonic() - before:.0f} s)")
+                before = time.monotonic()
     if running.returncode != 0 or not BINARY.exists():
-        last = next((line.strip() for line in reversed(said) if line.startswith("rt:")), "it said nothing")
-        raise Trouble(f"the program could not be built; 'rt check {PROGRAM}' says: {last}")
+        last = next((line.strip() for line in reversed(said) if TROUBLE.match(line)), "it said nothing")
+        raise Trouble(f"the program could not be built; {BY} says: {last}")
     # rt leaves a program alone that has not changed, so it is told here that no source is newer
     now = max(time.time(), newest_source())
     os.utime(BINARY, (now, now))

@@ -1,6 +1,6 @@
 // The proved step for a host in C: one load, on files and areas that the host owns and lends (crates/hosts/src/lib.rt).
 //
-// Link target/staticlib/libhosts.a, which `rt staticlib hosts` makes; host/run shows how, and host.c how it is called. The library is
+// Link target/staticlib/libhosts.a, which host/library makes; host/run shows how, and host.c how it is called. The library is
 // code for x86-64 Linux alone. So this header includes nothing, which the Rattle kit, having no C headers, could not follow, and names
 // plain types: there `unsigned char`, `unsigned int` and `unsigned long` are uint8_t, uint32_t, and uint64_t and size_t themselves,
 // and a host that has <stdint.h> lends its own arrays without a cast. C99; C++ takes it too.

@@ -17,9 +17,11 @@ import struct
 import subprocess
 import sys
 from pathlib import Path
+from tempfile import TemporaryDirectory
 
 LANE_TEST = "bench::actives::bit_is_set"
 LIBRARY = Path("target/staticlib/libhosts.a")
+CRATE = Path("crates/hosts_c")
 STEP = "kjolvast_step"
 # a function with less than this share of a step is not listed by itself
 LISTED = 0.01
@@ -50,29 +52,37 @@ exec {compiler} "$@"
 """
 
 
-def linked(kit: Path, seen: Path, *road: str) -> Path:
-    """Makes `seen` a folder that looks like the kit, down a road of folders, and gives the place at the road's end, which is left out."""
-    for name in road:
-        seen.mkdir()
-        for entry in kit.iterdir():
-            if entry.name != name:
-                (seen / entry.name).symlink_to(entry)
-        kit, seen = kit / name, seen / name
-    return seen
+def linked(kit: Path, seen: Path, *roads: tuple[str, ...]) -> None:
+    """Makes `seen` a folder that looks like the kit, but for the places at the ends of some roads of folders, which are left out."""
+    seen.mkdir()
+    for entry in kit.iterdir():
+        further = [road[1:] for road in roads if road[0] == entry.name]
+        if not further:
+            (seen / entry.name).symlink_to(entry)
+        elif () not in further:
+            linked(entry, seen / entry.name, *further)
 
 
 def module(folder: Path) -> tuple[Path, list[str]]:
     """The kit's compiler and the words that it compiles FOLDER/module.bc with."""
-    kit = Path(run("rt", "doc").strip()).parent.parent
-    road = ["on", os.uname().machine, "toolchain", "bin", "clang"]
-    compiler = kit.joinpath(*road)
-    catcher = linked(kit, folder / "kit", *road)
-    catcher.write_text(CATCHER.format(folder=shlex.quote(str(folder)), compiler=shlex.quote(str(compiler))))
-    catcher.chmod(0o755)
-    run("rt", "staticlib", "hosts", env=os.environ | {"RATTLE_HOME": str(folder / "kit")})
+    kit, road = Path(run("rt", "doc").strip()).parent, ("toolchain", "bin", "clang")
+    # rt looks for all else beside where its own files truly lie
+    own = [("bin", "rt"), ("bin", "rtlib.py")]
+    compiler, here = kit.joinpath(*road), shlex.quote(str(folder.resolve()))
+    # elsewhere, since rt ci takes no links below its repository
+    with TemporaryDirectory(prefix="kjolvast-kit-") as room:
+        seen = Path(room) / "kit"
+        catcher = seen.joinpath(*road)
+        linked(kit, seen, road, *own)
+        for file in own:
+            shutil.copy2(kit.joinpath(*file), seen.joinpath(*file))
+        catcher.write_text(CATCHER.format(folder=here, compiler=shlex.quote(str(compiler))))
+        catcher.chmod(0o755)
+        run(seen / "bin" / "rt", "lib", cwd=CRATE)
     if not (folder / "module.bc").exists():
         raise Trouble("the kit's compiler was handed no module.bc")
-    return compiler, (folder / "words").read_text().splitlines()
+    words = (folder / "words").read_text().splitlines()
+    return compiler, [f"--sysroot={compiler.parents[1]}" if word.startswith("--sysroot=") else word for word in words]
 
 
 # ---- a place for each instruction

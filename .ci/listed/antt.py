@@ -14,6 +14,7 @@ MARKS = ("unfoldable", "abbrev", "pub", "axiom")
 UNREAD = ("mutual", "open", "deriving", "package")
 OPENING, CLOSING = "({", ")}"
 PUNCTUATION = "(){}.;,@"
+HOLE = "◌"  # in the name of an operator, where an argument goes, as in ◌+◌
 
 
 class Unreadable(Exception):
@@ -80,7 +81,7 @@ def block_comment_end(text, start):
 def plain_name(text):
     """«x» is x, where x could be written without the marks."""
     inner = text[1:-1]
-    return inner if text[0] == "«" and inner and "_" not in inner and not re.search(r'[\s(){}.;,@"]', inner) else text
+    return inner if text[0] == "«" and inner and HOLE not in inner and not re.search(r'[\s(){}.;,@"]', inner) else text
 
 
 def tokens_of(text):

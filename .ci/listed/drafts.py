@@ -14,14 +14,14 @@ def type_of(made):
 def entry(tree, node):
     crate, _, file = node.file.split("/", 2)
     lines = listing.filled(f"pub {node.name} {type_of(tree.files[node.file].declared[node.name])}", 0)
-    return "\n".join(lines) + f"\n{node.name} = Rattle·{crate}.proofs.{file.replace('/', '.')}.{node.name}\n"
+    return "\n".join(lines) + f"\n{node.name} = Rattle.{crate}.proofs.{file.replace('/', '.')}.{node.name}\n"
 
 
 def type_module(tree, crate, name):
     """The module of a type of the code: below the file that declares it, unless that is the library's root."""
     file = next(key for key, source in tree.sources.items() if key.startswith(f"{crate}/") and name in source.types)
     inner = file.split("/")[-1].removesuffix(".rt")
-    return f"Rattle·{crate}.specs.declared." + ("" if inner == "lib" else inner + ".") + name
+    return f"Rattle.{crate}.specs.declared." + ("" if inner == "lib" else inner + ".") + name
 
 
 def brought_from(tree, word, meaning):
@@ -30,10 +30,10 @@ def brought_from(tree, word, meaning):
         return meaning.module
     crate, part = meaning.file.split("/")[:2]
     if part == "src":
-        return type_module(tree, crate, meaning.name) + ("" if word == meaning.name else ".the-variants")
+        return type_module(tree, crate, meaning.name) + ("" if word == meaning.name else ".TheVariants")
     if "pub" not in tree.files[meaning.file].declared[meaning.name].marks:
         return None
-    return f"Rattle·{crate}.{part}.{'.'.join(meaning.file.split('/')[2:])}"
+    return f"Rattle.{crate}.{part}.{'.'.join(meaning.file.split('/')[2:])}"
 
 
 def use_lines(brought):

@@ -6,6 +6,7 @@ from dataclasses import dataclass
 PLACE = r"(?:the clause `([^`]+)` of )?`([^`]+)` of `([^`]+)`"
 CLAIMS = re.compile(f"; refused by (?P<places>{PLACE}(?:, then by {PLACE})*)$")
 PARTS = ("src/", "specs/", "proofs/")
+TRIED = ".tried"  # what the name of a file of a copy that was tried ends with, so that no other check takes it for one of a crate
 
 
 class Unfit(Exception):
@@ -33,6 +34,10 @@ class Edit:
     def log(self):
         """What its log's files begin with."""
         return f"target/must-fail/{self.crate}/{self.name}"
+
+    def tried(self, texts):
+        """The files of the crate as they were tried with this edit."""
+        return {path.removesuffix(TRIED): text for path, text in files_below(texts, self.log + "/").items()}
 
     def claims(self):
         """What its first line claims, in the order of the log."""

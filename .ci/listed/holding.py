@@ -42,14 +42,15 @@ def those_that_fit(said, facts):
 
 def refusals(edit, texts, times):
     """What refused an edit, by its log: the first, and what the log has behind it."""
+    log, tree, copy = texts.get(edit.log + "/.log"), edits.files_below(texts, f"crates/{edit.crate}/"), edit.tried(texts)
+    made = edits.applied(edit, tree)
     if edit.log + ".out" not in texts:
         raise Unfit("it has no log")
-    logs.verdict(texts[edit.log + ".out"])
-    log, tree, copy = texts.get(edit.log + "/.log"), edits.files_below(texts, f"crates/{edit.crate}/"), edits.files_below(texts, edit.log + "/")
-    if log is None or edits.applied(edit, tree) != copy:
+    logs.verdict(texts[edit.log + ".out"], log)
+    if log is None or made != copy:
         raise Unfit("its log is of another tree: what was tried is not the crate with this edit")
     hold_times(edit, texts, times)
-    first, *rest = logs.facts(log, edit.log)
+    first, *rest = logs.facts(log)
     said = functools.partial(places.said, copy=copy, tree=tree, tie_of=places.tie_in(texts, edit.crate))
     return said(first), those_that_fit(said, rest)
 

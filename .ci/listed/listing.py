@@ -4,7 +4,7 @@ import textwrap
 from dataclasses import dataclass
 
 from listed import antt, names, rattle
-from listed.tree import Node
+from listed.tree import Node, crate_words
 
 WIDTH = 150
 BREAKS = ("→", "↔", "×", "∷", "&&", "||", "in", "else", "∙")
@@ -92,12 +92,21 @@ def definition(tree, part, node):
 
 def contract(tree, key, function):
     lines = filled(function.signature, 4)
-    for clause in function.requires:
-        lines += filled("requires " + rattle.spaced(clause), 4)
-    for clause in function.ensures:
-        lines += filled("ensures " + rattle.spaced(clause), 4)
+    for clause in function.requires + function.ensures:
+        lines += filled(f"{clause.head} {rattle.spaced(clause.text)}", 4)
     crate = key.split("/")[0]
     return Entry(CONTRACTS, key, f"{crate}::{function.name}", tuple(lines + origins(names.contract_references(tree, key, function))))
+
+
+def ghosts(tree, key, block):
+    """What a trait or an impl says in `ghost` members."""
+    lines = [line for member in block.members for line in filled(f"{member.head} {rattle.spaced(member.text)}", 4)]
+    return Entry(CONTRACTS, key, f"{key.split('/')[0]}::{block.name}", tuple(lines + origins(names.said_in(tree, key, block.members))))
+
+
+def all_ghosts(tree):
+    """The traits and impls with `ghost` members, each with the file that has it."""
+    return [(key, block) for key, source in sorted(tree.sources.items()) for block in source.blocks]
 
 
 def public_functions(tree):
@@ -107,7 +116,8 @@ def public_functions(tree):
 
 def checked(tree):
     """The crates, their files, what the libraries pass on, and the fixities."""
-    entries = [Entry(CHECKED, "crates.txt", f"{name}: {' '.join(rest)}".rstrip()) for name, rest in tree.crates.items()]
+    words = crate_words(tree.texts.get("crates.txt", ""))
+    entries = [Entry(CHECKED, "crates.txt", f"{' '.join([name] + words.get(name, []))}: {' '.join(rest)}".rstrip()) for name, rest in tree.crates.items()]
     for key, file in sorted(tree.files.items()):
         entries += [Entry(CHECKED, key, ("pub mod " if pub else "mod ") + name) for name, pub in file.mods]
         entries += [Entry(CHECKED, key, text) for text in file.fixities]
@@ -126,6 +136,8 @@ def sides(tree, told):
     promised = set()
     for key, function in public_functions(tree):
         promised.update(m for _, m in names.contract_references(tree, key, function))
+    for key, block in all_ghosts(tree):
+        promised.update(m for _, m in names.said_in(tree, key, block.members))
     return roots, names.reached(tree, stated), names.reached(tree, promised, True)
 
 
@@ -138,6 +150,8 @@ def kit_entries(tree, roots, definitions):
         found |= names.kit_names(names.references(tree, node))
     for key, function in public_functions(tree):
         found |= names.kit_names(names.contract_references(tree, key, function))
+    for key, block in all_ghosts(tree):
+        found |= names.kit_names(names.said_in(tree, key, block.members))
     return [Entry(KIT, module, name) for module, name in sorted(found)]
 
 
@@ -149,6 +163,7 @@ def entries(tree, told):
     made += [definition(tree, PROMISED, node) for node in sorted(promised - stated)]
     made += [definition(tree, BOTH, node) for node in sorted(stated & promised)]
     made += [contract(tree, key, function) for key, function in public_functions(tree)]
+    made += [ghosts(tree, key, block) for key, block in all_ghosts(tree)]
     made += kit_entries(tree, roots, stated | promised)
     return made + checked(tree)
 

@@ -5,24 +5,26 @@ from dataclasses import dataclass
 from listed.edits import Unfit
 
 ERROR = re.compile(r"(?P<path>\S+):(?P<line>\d+):(?P<column>\d+): error(?:\[[\w-]+\])?: (?:`(?P<name>[^`]+)`: )?(?P<text>.*)")
-NOTE = re.compile(r"note: \S+:\d+:\d+: it is not proved that .*\(`(?P<need>[^`]+)`\)$")
-NO_PROOF = re.compile(r"fn \w+::(?P<function>\S+): no proof: .*; `search` does not close (?P<needs>.*)$")
+NOTE = re.compile(r"note: \S+:\d+:\d+: it is not proved that .*?\(`(?P<need>[^`]+)`\)(?:;|$)")
+NO_PROOF = re.compile(r"fn \w+::(?P<function>\S+): no proof: .*; `search` did not prove (?P<needs>.*)$")
 # What rests on a declaration that was refused is refused for that alone.
-FOLLOWS = re.compile(r"`[^`]+` was not admitted \(")
+FOLLOWS = re.compile(r"`[^`]+` was not admitted \(|\d+ declarations? that depends? on `[^`]+`, which was (?:rejected|not admitted), w")
+TRIED = re.compile(r"rt check: status (-?\d+)")
 # What a line of an error begins with that says of a fact that it is not proved. Whatever else an error says is no fact: a name, a bracket
 # or a field that is not there, and what is not known here.
 FACT = re.compile(
     r"^(?:`search`: no proof of |`cc`: the equations do not join |`omega`: [^\0]*? does not follow from what it read"
+    r"|`grind`: the goal does not follow"
     r"|expected type `|(?:as printed|computed as far as they go), the two (?:types|sides|indices) |.*\bdoes not hold \(this comparison"
     r"|`rw`: no (?:part of the goal|occurrence of the path's (?:left|right) endpoint in the) "
-    r"|`simp`: no equation of the list has an instance in the goal "
+    r"|`simp`: no equation of the list has an instance (?:in the goal|where it is tried in) "
     r"|`(?:rw|simp)` has no last argument, so what it leaves must be a path whose two ends are equal)", re.M
 )
 
 
 @dataclass(frozen=True)
 class Error:
-    path: str  # in the copy of the crate
+    path: str  # in the crate
     line: int
     column: int
     name: str | None  # the declaration that the prover names
@@ -31,22 +33,24 @@ class Error:
 
 @dataclass(frozen=True)
 class Unproved:
-    """A need of a function that has no proof file: the prover names both."""
+    """A need that no proof file answers: the prover names it, and the function."""
     need: str
     function: str
 
 
-def verdict(out):
-    """What `rt must-fail` said of an edit; nothing where it refused it."""
-    first = out.split("\n", 1)[0]
-    if not first:
+def verdict(out, log):
+    """Whether the prover refused an edit, by how the try of it ended."""
+    match = TRIED.match(out)
+    if not match:
         raise Unfit("its log is empty: it was not tried to the end")
-    if ": refused, as it must be (" not in first:
-        raise Unfit("rt: " + first.partition(": ")[2].partition(": ")[2])
+    if match[1] == "0":
+        raise Unfit("rt: NOT REFUSED: the crate is still proved with this edit")
+    if match[1] != "1" or (log or "").strip() and not re.search(r"^logic=not-proved", log, re.M):
+        raise Unfit(f"rt: BAD EDIT: it did not reach the prover (status {match[1]})")
 
 
-def errors(log, folder):
-    """The errors of a log, in their order, without those that follow from another. `folder`: where the copy of the crate stands."""
+def errors(log):
+    """The errors of a log, in their order, without those that follow from another."""
     lines = log.split("\n")
     for at, line in enumerate(lines):
         match = ERROR.match(line)
@@ -55,25 +59,24 @@ def errors(log, folder):
         end = next((n for n in range(at + 1, len(lines)) if not lines[n].startswith("  ")), len(lines))
         text = "\n".join([match["text"]] + [more.strip() for more in lines[at + 1:end]])
         if not FOLLOWS.match(text):
-            path = match["path"].rpartition(folder + "/")[2]
-            yield Error(path, int(match["line"]), int(match["column"]), match["name"], text)
+            yield Error(match["path"].removeprefix("./"), int(match["line"]), int(match["column"]), match["name"], text)
 
 
 def unproved(log):
-    """The needs that the prover names, of functions that have no proof file."""
-    need = None
+    """The needs that the prover names, of functions whose proof files have none for them."""
+    noted = []
     for line in log.split("\n"):
         note, no_proof = NOTE.match(line), NO_PROOF.match(line)
-        if note and need is None:
-            need = note["need"]
-        elif no_proof and need is not None and f"`{need}`" in no_proof["needs"]:
-            yield Unproved(need, no_proof["function"])
-            need = None
+        if note:
+            noted.append(note["need"])
+        elif no_proof:
+            yield from (Unproved(need, no_proof["function"]) for need in noted if f"`{need}`" in no_proof["needs"])
+            noted = []
 
 
-def facts(log, folder):
+def facts(log):
     """The facts that do not hold, by a log: the errors first, as the prover tells them. The first error has to be one."""
-    found = list(errors(log, folder)) + list(unproved(log))
+    found = list(errors(log)) + list(unproved(log))
     if not found:
         raise Unfit("its log has no error")
     if not is_fact(found[0]):

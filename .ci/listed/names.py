@@ -5,14 +5,16 @@ from listed import antt
 from listed.tree import Node, Kit
 
 # The kit's words that every statement is written in, beside its operators and the prelude. Whatever else comes from the kit is named in the
-# list with its module, entry by entry.
-PRELUDE = ("⊥", "¬_", "absurd", "Unit", "tt", "Dec", "Id", "J", "Path", "IsProp", "IsSet", "Discrete", "∥_∥₁", "∣_∣₁", "squash₁", "Type", "×", "now")
-VOCABULARY = ("ℕ", "ℤ", "Bool", "List", "[]", "true", "false", "not", "zero", "suc", "pos", "negsuc", "length", "getD", "take", "drop", "replicate",
-              "min", "eqb", "ltb", "leb", "refl", "RefT") + PRELUDE
+# list with its module, entry by entry; so are None and Contains, since the code has a None of its own and demand 2 a Contains.
+PRELUDE = ("⊥", "¬◌", "absurd", "Unit", "tt", "Dec", "Id", "J", "Path", "IsProp", "IsSet", "Discrete", "∥◌∥₁", "∣◌∣₁", "squash₁", "Type", "×", "now")
+VOCABULARY = ("ℕ", "ℤ", "Bool", "List", "[]", "true", "false", "not", "zero", "suc", "pos", "negsuc", "length", "get_or", "take", "drop", "replicate",
+              "min", "eqb", "ltb", "leb", "refl", "Bor") + PRELUDE + (
+    "⊤", "All", "Any", "Some", "Ok", "Err", "IfSome", "IfNone", "IfOk", "IfErr", "OnSome", "OnOk", "OnErr", "IsSome", "IsNone", "IsOk",
+    "IsErr", "IsTrue", "IsFalse", "nat_eq", "nat_lt", "nat_le", "slice_get", "slice_index", "slice_index_or", "slice_set", "bit_and", "bit_or", "bit_xor")
 
 
 def is_vocabulary(name):
-    return "_" in name or name in VOCABULARY
+    return antt.HOLE in name or name in VOCABULARY
 
 
 def path_at(tokens, place):
@@ -39,14 +41,14 @@ def meanings(scope, word):
     """What one name may mean: itself, or each operator that it is a part of."""
     if word in scope.names:
         return [(word, scope.names[word])]
-    parts = [part for part in word.split("_") if part]
+    parts = [part for part in word.split(antt.HOLE) if part]
     return [(name, scope.names[name]) for part in parts for name in sorted(scope.parts.get(part, ()))]
 
 
 def by_path(tree, scope, names):
     """What a path means: a module's short name or whole path, and a name of it; or the first name's own meaning, and fields."""
     module = scope.modules.get(names[0])
-    if module or names[0].startswith("Rattle·") or names[0] == "package":
+    if module or names[0] == "Rattle" or names[0] == "package":
         for cut in range(len(names) - 1, 0, -1):
             meaning = tree.member(".".join([module or names[0]] + names[1:cut]), names[cut])
             if meaning is not None:
@@ -133,7 +135,8 @@ def references(tree, node, whole=True, careful=False):
 def references_of(tree, node, whole, careful):
     if node.file.endswith("/src"):
         crate = node.file.split("/")[0]
-        return [(n.name, n) for n in types_in(tree, crate, tree.types(crate)[node.name])]
+        key, source = next((key, s) for key, s in tree.sources.items() if key.startswith(f"{crate}/") and node.name in s.types)
+        return [(n.name, n) for n in types_in(tree, crate, source.types[node.name])] + said_in(tree, key, source.said[node.name])
     made, scope = tree.files[node.file].declared[node.name], tree.scope(node.file)
     texts = texts_of(scope, made, whole)
     bound = {tokens[n].text for tokens, places, _ in texts for n in places} if careful else set()
@@ -170,13 +173,20 @@ def reached(tree, roots, careful=False):
 
 
 def contract_references(tree, key, function):
-    """What the `ensures` of a function name, with the types of its signature. Its parameters hide whatever else has their name."""
+    """What the `ensures` of a function name, with the types of its signature. Its parameters hide whatever else has their name, as does
+    `result`, which it returns."""
     crate = key.split("/")[0]
     found = [(n.name, n) for n in types_in(tree, crate, function.signature)]
-    parameters = set(re.findall(r"(\w+)\s*:", function.signature))
-    for clause in function.ensures:
-        tokens = antt.tokens_of(clause)
-        found.extend(named_in(tree, tree.scope(key), tokens, binders(tokens), parameters))
+    parameters = set(re.findall(r"(\w+)\s*:", function.signature)) | {"self", "result"}
+    return found + said_in(tree, key, function.ensures, parameters)
+
+
+def said_in(tree, key, clauses, bound=()):
+    """What clauses of a contract, or `ghost` members, name."""
+    found = []
+    for clause in clauses:
+        tokens = antt.tokens_of(clause.text)
+        found.extend(named_in(tree, tree.scope(key), tokens, binders(tokens), bound))
     return found
 
 

@@ -10,7 +10,7 @@ LEMMAS_FROM = "## The cheats and the faults already paid for"
 WHOLE = re.compile(r"^([a-z_]+)/((?:[A-Z]\w*/)*[A-Z]\w*)\.(\S+)$")  # crate/File.name or crate/Folder/File.name
 FUNCTION = re.compile(r"^[a-z_]+::[\w:]+$")
 EDIT = re.compile(r"^[a-z_]+/(must-fail|edits)/\w+$")
-WORDS = ("rt", "cargo", "requires", "ensures", "&mut", "u8", "u32", "u64", "i64", "usize", "bool")
+WORDS = ("rt", "cargo", "if◌then◌else◌", "requires", "ensures", "&mut", "u8", "u32", "u64", "i64", "usize", "bool")
 
 
 @dataclass

@@ -7,7 +7,7 @@ from listed.edits import Claim, Unfit
 from listed.logs import Unproved
 
 NEED = "Need-"
-PROOF = "/Proof"  # the last of the path of a function's own proof
+PROOF, ANSWERS = "/Proof", "/Answers"  # the last of the path of a function's own proof, by hand or goal by goal
 TOKEN = re.compile(r"[A-Za-z_]\w*|\d\w*|<<=?|>>=?|&&|\|\||=>|->|\.\.|[-+*/%]=?|\S")
 BRANCHES = ("if", "else", "match", "while", "loop", "for", "return", "break", "continue", "as", "fn", "&&", "||", "=>", "..")
 
@@ -47,14 +47,22 @@ def is_in(place, tokens):
 
 
 def argument_need(proof, place, clause, tie):
-    """The need that an argument of `tie.spec` is for: those of the loops come first, two for each."""
-    given, loops = arguments(clause), 2 * len(tie["loops"])
-    if len(given) != loops + len(tie["needs"]):
-        raise Unfit(f"{proof} does not fit: it has {len(given)} arguments for {loops + len(tie['needs'])}")
+    """The need that an argument of `tie.spec` is for: the invariants and measures come first."""
+    given, first = arguments(clause), tie["first"]
+    if len(given) != first + len(tie["needs"]):
+        raise Unfit(f"{proof} does not fit: it has {len(given)} arguments for {first + len(tie['needs'])}")
     at = next((n for n, argument in enumerate(given) if is_in(place, argument)), None)
-    if at is None or at < loops:
+    if at is None or at < first:
         raise Unfit(f"{proof} does not fit: its first error stands at no need")
-    return tie["needs"][at - loops].removeprefix(NEED)
+    return tie["needs"][at - first][1]
+
+
+def declared_need(proof, name, tie):
+    """The need that a declaration of a proof by hand is for, by either of its names: the prover takes both there."""
+    new = {**dict(tie["needs"]), **{new: new for _, new in tie["needs"]}}.get(name)
+    if new is None:
+        raise Unfit(f"{proof} does not fit: the function has no need {name}")
+    return new
 
 
 def clause_at(line, clauses):
@@ -78,36 +86,56 @@ def declared_at(error, copy):
     raise Unfit(f"its first error stands in the statement of `{made.name}`, and not in its proof")
 
 
-def named_need(made):
-    """The X of a declaration `NAME : tie.Need-X ..`, or none."""
+def named_need(made, module):
+    """The X of a declaration `NAME : tie.Need-X ..` of a proof by hand, or `NAME : goal.X` of one goal by goal; else none."""
     behind = [token.text for token in antt.split_at(made.head, ":")[1]]
-    return behind[2].removeprefix(NEED) if behind[:2] == ["tie", "."] and behind[2].startswith(NEED) else None
+    prefix = NEED if module == "tie" else ""
+    return behind[2].removeprefix(prefix) if behind[:2] == [module, "."] and behind[2].startswith(prefix) else None
 
 
 def of_error(error, copy, tie_of):
-    """The law, or the need and its function, that an error in the copy of a crate stands in. `tie_of` gives what the prover made of a
-    function: its loops and its needs."""
+    """The law, or the need and its function, that an error in the copy of a crate stands in. `tie_of` gives what the prover asks of a
+    function: how many invariants and measures, and its needs, each by its name in a proof by hand and by its name elsewhere."""
     made, clause = declared_at(error, copy)
-    where = error.path.removesuffix(".antt")
-    need = named_need(made)
-    if need is None and where.endswith(PROOF) and arguments(clause):
-        place = where.removesuffix(PROOF)
-        need = argument_need(place, (error.line, error.column - 1), clause, tie_of(place))
+    where, need = error.path.removesuffix(".antt"), None
+    place = where.removesuffix(PROOF).removesuffix(ANSWERS)
+    if where.endswith(ANSWERS):
+        need = named_need(made, "goal")
+    elif where.endswith(PROOF):
+        name = named_need(made, "tie")
+        if name is not None:
+            need = declared_need(place, name, tie_of(place))
+        elif arguments(clause):
+            need = argument_need(place, (error.line, error.column - 1), clause, tie_of(place))
     if need is None:
         inner = clause_at(error.line, [clause])
         has_more = inner is not clause or sum(part[0].text == made.name for part in made.parts) > 1
         return Claim(made.name, where, antt.joined(antt.split_at(inner, "=")[0]) if has_more else None)
-    return Claim(need, where.removeprefix("proofs/").removesuffix(PROOF).replace("/", "::"))
+    return Claim(need, place.removeprefix("proofs/").replace("/", "::"))
 
 
 def tie_in(texts, crate):
-    """The `tie_of` of a crate, by what the prover left in target/rlib."""
+    """The `tie_of` of a crate, by what the prover said of it, in target/must-fail."""
     def tie_of(place):
-        text = texts.get(f"target/rlib/{crate}.rlib/lang/antt/{place}/Tie.json")
-        if text is None:
-            raise Unfit(f"target/rlib/{crate}.rlib does not have the needs of {place}")
-        return json.loads(text)["Close"]
+        found = json.loads(texts.get(needs_file(crate), "{}")).get(place)
+        if found is None:
+            raise Unfit(f"{needs_file(crate)} does not have the needs of {place}")
+        return found
     return tie_of
+
+
+def needs_file(crate):
+    return f"target/must-fail/{crate}/needs.json"
+
+
+def needs_in(tie, goals):
+    """What a function's proof by hand has to give, by the modules `Tie` and `Goals` that the prover makes of it: how many invariants and
+    measures come first in `tie.spec`, and then the needs in their order, each by its name there and by the one that it has elsewhere."""
+    named = {old: new for new, old in re.findall(r"^the-fitted-(\S+) =\s+Lts\.Need-(\S+)", goals, re.M)}
+    spec = tie[tie.index("pub spec :"):]
+    given = re.findall(r"^ *\((\S+) : ([^\s)]+)", spec[:spec.index("spec =")], re.M)
+    needs = [name.rpartition(".")[2].removeprefix(NEED) for argument, name in given if argument == "answer"]
+    return {"first": len(given) - len(needs), "needs": [[old, named.get(old, old)] for old in needs]}
 
 
 def words_of(text, name):

@@ -3,7 +3,7 @@ from listed import antt, listing, names
 from listed.tree import Kit, constructors
 
 CLAIMS = "claims/proofs/"
-KIT_ROOTS = ("package", "Prim", "lib", "mathlib", "native", "borrow", "denote", "mir")  # what the paths of the kit begin with
+KIT_ROOTS = ("package", "Rattle", "Prim", "lib", "mathlib", "native", "borrow", "denote", "mir")  # what the paths of the kit begin with
 
 
 def of_functions(tree):
@@ -12,7 +12,7 @@ def of_functions(tree):
         name = f"{key.split('/')[0]}::{function.name}"
         if function.requires:
             yield f"{name}: a public function with a `requires` or a `ghost`"
-        if not function.ensures:
+        if not function.ensures and not function.inherits:
             yield f"{name}: a public function without an `ensures`"
 
 
@@ -39,7 +39,7 @@ def of_uses(tree, protected):
                 yield f"{where}: `use {use.path}`, an axiom"
             if use.path.endswith("*"):
                 yield f"{where}: `use {use.path}` brings names that are not written down"
-            if use.items is None and (use.alias.startswith("Rattle·") or use.alias in KIT_ROOTS and "." in use.path):
+            if use.items is None and use.alias in KIT_ROOTS and "." in use.path:
                 yield f"{where}: a module is brought in as {use.alias}"
             for item, brought in use.items or ():
                 if item != brought and ("/proofs/" not in path or CLAIMS in path or {item, brought} & protected):
@@ -65,7 +65,7 @@ def of_declarations(tree, protected):
     for key, file in tree.files.items():
         for made in file.declared.values():
             for name in sorted(names_bound(tree.scope(key), made)):
-                if name in protected or name.startswith("Rattle·"):
+                if name in protected or name == "Rattle":
                     yield f"{key}.{made.name}: {name} is a name of the kit or of a crate, and is declared or bound here"
 
 
@@ -89,7 +89,7 @@ def citation(made):
     """The theorem that an entry of claims/ cites by its whole path, or none where the entry has any other form than
 
         pub NAME : TYPE
-        NAME = Rattle·CRATE.proofs.FILE.NAME
+        NAME = Rattle.CRATE.proofs.FILE.NAME
     """
     if made.kind != "value" or made.marks != ("pub",) or made.modules or made.unfolding or len(made.parts) != 1:
         return None

@@ -47,8 +47,9 @@ def with_copies(texts):
     for path in (p for p in texts if p.endswith(".edit")):
         _, crate, _, name = path.removesuffix(".edit").split("/")
         edit = edits.Edit(crate, name, path, texts[path])
-        if not edits.files_below(texts, edit.log + "/"):
-            made |= {f"{edit.log}/{file}": text for file, text in edits.applied(edit, edits.files_below(texts, f"crates/{crate}/")).items()}
+        if not edit.tried(texts):
+            copy = edits.applied(edit, edits.files_below(texts, f"crates/{crate}/"))
+            made |= {f"{edit.log}/{file}{edits.TRIED}": text for file, text in copy.items()}
     return made
 
 

@@ -17,7 +17,7 @@ BY_SECOND = ["--program", f"{SECOND} answer"]
 REPLAY = ROOT / "replay"
 
 # the mark of a test that runs the proved program
-by_replay = unittest.skipUnless(built(), "the proved program is not built: rt check replay")
+by_replay = unittest.skipUnless(built(), "the proved program is not built: rt run in crates/replay")
 
 # a good bench, which a test changes in one place
 GOOD = {

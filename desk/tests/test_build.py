@@ -11,15 +11,22 @@ from desk.tests.common import ROOT, SECOND, Benches, toml
 
 # what stands for the kit: it tells as rt does, its program is the second interpreter, and one that is there is left alone
 RT = f"""#!/bin/sh
-echo "$@" >> calls
-echo 'rt: ground proved (5 s)'
+echo "$@" in "${{PWD##*/}}" >> ../../calls
+echo 'rt: chose --jobs 2 for ground' >&2
 echo 'fn ground::x: proved'
-[ ! -e target/bin/replay ] || exit 0
-mkdir -p target/bin
-printf '#!/bin/sh\\nexec {SECOND} answer\\n' > target/bin/replay
-chmod +x target/bin/replay
+echo 'crate ground: modules loaded=200 checked=0'
+echo 'logic=proved functions=6'
+[ ! -e out/replay ] || exit 0
+mkdir -p out
+printf '#!/bin/sh\\nexec {SECOND} answer\\n' > out/replay
+chmod +x out/replay
 """
-BROKEN = "#!/bin/sh\necho 'rt: ground NOT PROVED (exit 1, 3 s)'\nexit 1\n"
+BROKEN = """#!/bin/sh
+echo 'fn ground::x: not proved'
+echo 'logic=not-proved'
+echo 'rt: the library ground did not build, so nothing above it was checked' >&2
+exit 1
+"""
 
 
 class Building(Benches):
@@ -28,11 +35,11 @@ class Building(Benches):
         self.copy = self.folder / "copy"
         shutil.copytree(ROOT / "desk", self.copy / "desk")
         shutil.copy(ROOT / "kj", self.copy)
-        (self.copy / "crates.txt").write_text("ground:\nbench: ground\nreplay: bench io\nlater: replay\n")
+        (self.copy / "crates.txt").write_text("ground:\nbench: ground\nreplay: bench\nlater: replay\n")
         for crate in ("ground", "bench", "replay", "later"):
             (self.copy / "crates" / crate / "src").mkdir(parents=True)
             (self.copy / "crates" / crate / "src" / "lib.rt").write_text("")
-        self.script(self.copy / "replay", "#!/bin/sh\necho >> launches\nexec target/bin/replay\n")
+        self.script(self.copy / "replay", "#!/bin/sh\necho >> launches\nexec crates/replay/out/replay\n")
         (self.folder / "bin").mkdir()
         self.bench = self.write(toml())
 
@@ -53,14 +60,14 @@ class Building(Benches):
         return subprocess.CompletedProcess(running.args, running.returncode, said, complained)
 
     def calls(self) -> int:
-        return (self.copy / "calls").read_text().count("check replay\n")
+        return (self.copy / "calls").read_text().count("run in replay\n")
 
     def test_once_and_it_says_what_it_does(self) -> None:
         ran = self.kj(RT)
         self.assertEqual(ran.returncode, 0, ran.stderr)
         lines = ran.stderr.splitlines()
-        self.assertIn("proving and building the program 'replay' by 'rt check replay'", lines[0])
-        self.assertEqual(lines[1], "kj:   ground proved (5 s)")
+        self.assertIn("proving and building the program 'replay' by 'rt run' in crates/replay", lines[0])
+        self.assertRegex(lines[1], "^kj:   ground proved \\([0-9]+ s\\)$")
         self.assertRegex(lines[2], "^kj: built in [0-9]+ s$")
         self.assertIn("answer 0, ran", ran.stdout)
         self.assertEqual((self.kj(RT).stderr, self.calls()), ("", 1))
@@ -96,7 +103,8 @@ class Building(Benches):
     def test_a_build_that_fails(self) -> None:
         ran = self.kj(BROKEN)
         self.assertEqual((ran.returncode, ran.stdout), (2, ""))
-        last = "kj: the program could not be built; 'rt check replay' says: rt: ground NOT PROVED (exit 1, 3 s)"
+        says = "rt: the library ground did not build, so nothing above it was checked"
+        last = f"kj: the program could not be built; 'rt run' in crates/replay says: {says}"
         self.assertEqual(ran.stderr.splitlines()[-1], last)
 
     def test_a_program_that_is_older_than_a_source_that_is_not_proved(self) -> None:
@@ -114,7 +122,7 @@ class Building(Benches):
     def test_a_bad_file_builds_nothing(self) -> None:
         self.bench = self.write("vl = -1\n")
         self.assert_one_line(self.kj(RT), "vl: ")
-        self.assertFalse((self.copy / "target").exists())
+        self.assertFalse((self.copy / "crates" / "replay" / "out").exists())
 
 
 if __name__ == "__main__":

@@ -140,7 +140,7 @@ class Hosts(Benches):
         (copy / "target" / "staticlib").mkdir(parents=True)
         (copy / "host" / "stub.c").write_text(STUB % wrongs)
         guide = Path(subprocess.run(["rt", "doc"], capture_output=True, text=True, check=True).stdout.strip())
-        clang = guide.parents[1] / "on" / os.uname().machine / "toolchain" / "bin" / "clang"
+        clang = guide.parent / "toolchain" / "bin" / "clang"
         words = ["--target=x86_64-unknown-linux-gnu", "--no-default-config", "-fPIE", "-c", str(copy / "host" / "stub.c")]
         subprocess.run([str(clang), *words, "-o", str(copy / "target" / "staticlib" / "libhosts.a")], check=True)
         return copy

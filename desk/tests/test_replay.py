@@ -4,7 +4,6 @@ docs/CASES.md by hand, or from the second interpreter."""
 import os
 import pty
 import resource
-import signal
 import socket
 import subprocess
 import tempfile
@@ -60,13 +59,14 @@ class Outputs(Benches):
                 self.assertEqual((ran.returncode, ran.stderr, file.read()), (0, told(3, UNWRITTEN), wanted[:limit]))
 
     def test_nobody_reads(self) -> None:
-        for ignored, status, line in ((True, 0, told(0, UNWRITTEN)), (False, -signal.SIGPIPE, b"")):
+        """It is told, and no signal ends the program: what starts it ignores SIGPIPE, whether or not its caller does."""
+        for ignored in (True, False):
             reader, writer = os.pipe()
             os.close(reader)
             # Python ignores SIGPIPE, and has it back as it was for a program only if asked
             ran = run(input=SMALL, stdout=writer, restore_signals=not ignored)
             os.close(writer)
-            self.assertEqual((ran.returncode, ran.stderr), (status, line))
+            self.assertEqual((ran.returncode, ran.stderr), (0, told(0, UNWRITTEN)))
 
     def test_standard_output_is_closed(self) -> None:
         ran = subprocess.run(["sh", "-c", 'exec "$0" >&-', str(REPLAY)], input=SMALL, stderr=subprocess.PIPE, timeout=60)
@@ -199,10 +199,10 @@ class Launching(Benches):
     def setUp(self) -> None:
         super().setUp()
         self.copy, self.bin, self.kit = (self.folder / name for name in ("a copy", "bin", "a kit"))
-        for folder in (self.copy / "target" / "bin", self.bin):
+        for folder in (self.copy / "crates" / "replay" / "out", self.bin):
             folder.mkdir(parents=True)
         self.script(self.copy / "replay", REPLAY.read_text())
-        self.script(self.copy / "target" / "bin" / "replay", "#!/bin/sh\necho program\nexec cat\n")
+        self.script(self.copy / "crates" / "replay" / "out" / "replay", "#!/bin/sh\necho program\nexec cat\n")
         for tool in ("sh", "dirname", "readlink", "cat"):
             (self.bin / tool).symlink_to(next(Path(folder, tool) for folder in os.defpath.split(":") if Path(folder, tool).exists()))
 
@@ -235,12 +235,14 @@ class Launching(Benches):
             self.assertEqual(self.launch(path=path), (0, "program\ncases", ""), path)
 
     def test_elsewhere_it_runs_under_the_emulator_of_the_kit(self) -> None:
-        tools = self.kit / "on" / "aarch64" / "toolchain"
-        self.machine("aarch64", f"echo '{self.kit}/docs/START-HERE.md'")
-        self.assertEqual(self.launch(), (2, "", "replay: the Rattle kit has no emulator for this machine, aarch64\n"))
-        self.script(tools / "bin" / "qemu-x86_64", '#!/bin/sh\nfor word; do echo "$word"; done\nexec cat\n')
-        words = [f"{tools}/lib/ld-linux-x86-64.so.2", "--library-path", f"{tools}/lib", f"{self.copy}/target/bin/replay", "cases"]
-        self.assertEqual(self.launch(), (0, "\n".join(words), ""))
+        tools = self.kit / "toolchain"
+        self.machine("aarch64", f"echo '{self.kit}/START-HERE.md'")
+        none = "replay: no emulator qemu-x86_64 for this machine, aarch64, in the Rattle kit or beside it\n"
+        self.assertEqual(self.launch(), (2, "", none))
+        words = [f"{tools}/lib/ld-linux-x86-64.so.2", "--library-path", f"{tools}/lib", f"{self.copy}/crates/replay/out/replay", "cases"]
+        for place, name in [(self.bin, "the machine's"), (tools / "bin", "the kit's")]:
+            self.script(place / "qemu-x86_64", f'#!/bin/sh\necho "{name}"\nfor word; do echo "$word"; done\nexec cat\n')
+            self.assertEqual(self.launch(), (0, "\n".join([name, *words]), ""))
 
     def test_elsewhere_without_a_kit(self) -> None:
         self.machine("aarch64")
@@ -250,10 +252,10 @@ class Launching(Benches):
         self.assertEqual(self.launch(), (2, "", line))
 
     def test_not_built(self) -> None:
-        (self.copy / "target" / "bin" / "replay").unlink()
+        (self.copy / "crates" / "replay" / "out" / "replay").unlink()
         for name in ("x86_64", "aarch64"):
             self.machine(name)
-            self.assertEqual(self.launch(), (2, "", "replay: not built yet: run 'rt check replay'\n"))
+            self.assertEqual(self.launch(), (2, "", "replay: not built yet: run 'rt run' in crates/replay\n"))
 
     def test_arguments(self) -> None:
         self.machine("x86_64")
