@@ -68,7 +68,7 @@ module _ (q : Asked) (can : Packable q) where
             begins = magic_read q can rest;
             flags = rw (flags_read q can rest) (none_strange q k.1);
             kind = rw (kind_there q can rest) k.0;
-            level = rw (level_read q can rest) can.level;
+            level = rw (level_read q can rest) (omega (arith, can.level));
             bounds = rw (head_read q can rest) bounds;
           };
           whole = rw (head_read q can rest, packed_long q) (omega (arith, length-append (packed q) rest));

@@ -2,7 +2,7 @@
 use mathlib.Core.Path.{◌≡◌, sym, ◌∙◌}
 use mathlib.Core.Bool.{Bool, false}
 use mathlib.Core.List.{List}
-use Prim.Native.Nat.{ℕ, ◌/◌, ◌%◌}
+use Prim.Native.Nat.{ℕ, ◌/◌, ◌%◌, ◌≤◌}
 use borrow.Author.Tests.{lt-ltb, le-ltb}
 use lib.Dec.{ltb}
 use Rattle.ground.specs.Lists.{bytes_at}
@@ -26,8 +26,8 @@ no_flag c = flagged c.args.s.now c.number-flags.ensures.0 c.strange_flag.ensures
 no_kind : (c : tie.Else-strange_kind) → strange_kind (kind_of (flags_in c.args.s.now)) ≡ false
 no_kind c = asked c.args.s.now c.number-flags.ensures.0 c.strange_kind.ensures c.if-strange_kind.false
 
-level : (c : tie.Else-number-gt4) → ltb 4 (bytes_at c.args.s.now 12 4) ≡ false
-level c = rw (← c.number.ensures.0) (le-ltb _ _ c.if-number-gt4.false)
+low : (s : List ℕ) {n : ℕ} → n ≡ bytes_at s 12 4 → n ≤ 4 → ltb 4 (bytes_at s 12 4) ≡ false
+low s e h = rw (← e) (le-ltb _ _ h)
 
 -- how long the head is
 far : (c : tie.After-head_bytes)
@@ -46,10 +46,10 @@ marked_spec =
     (λ c. let t = c.before.before in rw (no_flag t.before.before, no_kind t, ← c.number.ensures.0, lt-ltb _ _ c.if-number-gt4.true)) (λ c κs. tt)
     (λ c.
     let t = c.before.before in
-    rw (no_flag t.before.before.before.before, no_kind t.before.before, level t, ← far c.before, lt-ltb _ _ c.if-s-head_bytes.true))
+    rw (no_flag t.before.before.before.before, no_kind t.before.before, low c.args.s.now c.number.ensures.0 c.if-number-gt4.false, ← far c.before, lt-ltb _ _ c.if-s-head_bytes.true))
     (λ c κs. tt) (λ c κs. tt)
     (λ c.
     let u = c.before.before in
     let t = u.before.before in
     rw (c.within_limits.ensures, c.read_head.ensures)
-    (rw (no_flag t.before.before.before.before, no_kind t.before.before, level t, ← far u.before, le-ltb _ _ u.if-s-head_bytes.false))))
+    (rw (no_flag t.before.before.before.before, no_kind t.before.before, low c.args.s.now c.number.ensures.0 c.if-number-gt4.false, ← far u.before, le-ltb _ _ u.if-s-head_bytes.false))))
