@@ -133,7 +133,7 @@ def needs_in(tie, goals):
     measures come first in `tie.spec`, and then the needs in their order, each by its name there and by the one that it has elsewhere."""
     named = {old: new for new, old in re.findall(r"^the-fitted-(\S+) =\s+Lts\.Need-(\S+)", goals, re.M)}
     spec = tie[tie.index("pub spec :"):]
-    given = re.findall(r"^ *\((\S+) : ([^\s)]+)", spec[:spec.index("spec =")], re.M)
+    given = re.findall(r"\((\S+) : ([^\s)]+)", spec[:spec.index("spec =")])
     needs = [name.rpartition(".")[2].removeprefix(NEED) for argument, name in given if argument == "answer"]
     return {"first": len(given) - len(needs), "needs": [[old, named.get(old, old)] for old in needs]}
 
