@@ -15,6 +15,7 @@ TRIED = re.compile(r"rt check: status (-?\d+)")
 FACT = re.compile(
     r"^(?:`search`: no proof of |`cc`: the equations do not join |`omega`: [^\0]*? does not follow from what it read"
     r"|`grind`: the goal does not follow"
+    r"|this `[^`]+` lands at index `"
     r"|expected type `|(?:as printed|computed as far as they go), the two (?:types|sides|indices) |.*\bdoes not hold \(this comparison"
     r"|`rw`: no (?:part of the goal|occurrence of the path's (?:left|right) endpoint in the) "
     r"|`simp`: no equation of the list has an instance (?:in the goal|where it is tried in) "

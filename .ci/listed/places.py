@@ -9,6 +9,7 @@ from listed.logs import Unproved
 NEED = "Need-"
 PROOF, ANSWERS = "/Proof", "/Answers"  # the last of the path of a function's own proof, by hand or goal by goal
 TOKEN = re.compile(r"[A-Za-z_]\w*|\d\w*|<<=?|>>=?|&&|\|\||=>|->|\.\.|[-+*/%]=?|\S")
+MADE = re.compile(r"(?:if|then|else|Then|Else)-.+$")  # what the prover calls a test and its branches, by what is tested, its numbers too
 BRANCHES = ("if", "else", "match", "while", "loop", "for", "return", "break", "continue", "as", "fn", "&&", "||", "=>", "..")
 
 
@@ -144,14 +145,26 @@ def words_of(text, name):
     return made and [[token.text for token in part] for part in (made.head, made.unfolding, *made.parts)]
 
 
+def is_turned(before, after):
+    """Whether two declarations differ in names alone that the prover makes of the code (`if-field-eq2`), each of them turned throughout, and no
+    two into one: what is proved is the same then, by the same tests."""
+    if [len(part) for part in before] != [len(part) for part in after]:
+        return False
+    pairs = {pair for one, other in zip(before, after) for pair in zip(one, other)}
+    made = {pair for pair in pairs if MADE.match(pair[0]) and MADE.match(pair[1])}
+    news = [new for _, new in made]
+    return all(one == other for one, other in pairs - made) and len(dict(made)) == len(made) and len(set(news)) == len(news)
+
+
 def said(found, copy, tree, tie_of):
     """What refuses an edit, by the first fact of its log that does not hold. `copy`: the files of the crate with the edit made, `tree`:
-    those without it. What refuses an edit is not changed by it. A function's proof is one of the needs of its own code, and says nothing
-    about code of another shape."""
+    those without it. What refuses an edit is not changed by it, but for names that the prover makes of the code. A function's proof is one
+    of the needs of its own code, and says nothing about code of another shape."""
     if isinstance(found, Unproved):
         return Claim(found.need, found.function)
     refusal = of_error(found, copy, tie_of)
-    if words_of(copy[found.path], found.name) != words_of(tree[found.path], found.name):
+    before, after = words_of(tree[found.path], found.name), words_of(copy[found.path], found.name)
+    if before != after and not (before and after and is_turned(before, after)):
         raise Unfit(f"it changes {found.path} where that refuses it, by {refusal}")
     changed = [path for path in tree if path.startswith("src/") and shape(tree[path]) != shape(copy[path])]
     if changed and found.path.endswith(PROOF + ".antt"):
