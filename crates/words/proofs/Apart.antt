@@ -16,7 +16,7 @@ use Rattle.ground.specs.Pieces.{bits}
 use Rattle.ground.proofs.Laws.{never, off, or_cases, and_left, and_right, and_both, all_of_lem, all, any_at}
 use Rattle.ground.proofs.Pieces.{halves}
 use Rattle.words.specs.Families.{Fixed, bits_are, tests, fits, FamilyRow, ◌⇨◌, families, read_by, read_of}
-use Rattle.words.specs.Insns.{Decoded, Outside, Undefined}
+use Rattle.words.specs.Insns.{Err, Decoded, Outside, Undefined}
 
 -- ---- Two rows that fix a bit to different values
 
@@ -83,7 +83,7 @@ module _ (w : ℕ) where
 
 -- the row at a place of a table; past its end there is none, and a row that says outside stands for it
 abbrev pub row_at : List FamilyRow → ℕ → FamilyRow
-row_at rows k = get_or rows k ([] ⇨ (λ w. Outside))
+row_at rows k = get_or rows k ([] ⇨ (λ w. Err Outside))
 
 -- the word fits the row at a place
 pub record FitsAt (rows : List FamilyRow) (w k : ℕ) : Type 0 where
@@ -126,7 +126,7 @@ module _ (w : ℕ) where
   abbrev Found : List FamilyRow → Type 0
   Found rows =
       ((k : ℕ) × FitsAt rows w k × (read_by rows w ≡ (row_at rows k).means w))
-      ⊎ (((k : ℕ) → FitsAt rows w k → ⊥) × (read_by rows w ≡ Outside))
+      ⊎ (((k : ℕ) → FitsAt rows w k → ⊥) × (read_by rows w ≡ Err Outside))
 
   found : (rows : List FamilyRow) → Found rows
   found [] = inr (λ k h. not-suc-le-zero h.there, refl)
@@ -152,7 +152,7 @@ module _ (w : ℕ) where
   Says rows more = (k : ℕ) → FitsAt rows w k → (j : ℕ) × FitsAt more w j × ((row_at more j).means w ≡ (row_at rows k).means w)
 
   -- so a word that was not outside by the one is the same by the other
-  pub still : (rows more : List FamilyRow) → apart more ≡ true → Says rows more → (read_by rows w ≡ Outside → ⊥) → read_by more w ≡ read_by rows w
+  pub still : (rows more : List FamilyRow) → apart more ≡ true → Says rows more → (read_by rows w ≡ Err Outside → ⊥) → read_by more w ≡ read_by rows w
   still rows more a s inside =
       ⊎_elim
       (λ h. let r = s h.0 h.1 in place_reads more a r.0 r.1 ∙ r.2 ∙ sym h.2)
@@ -175,20 +175,20 @@ pub row_is : (k w : ℕ) {d : Decoded} → k < length families → fits w (row_a
 row_is k w l t e = e ∙ sym (row_reads w k l t)
 
 -- a word with bits that every row fixes otherwise is outside
-pub clashing_outside : (fs : List Fixed) → all (clash (fs ⇨ (λ w. Outside))) families ≡ true → (w : ℕ) → fits w fs ≡ true → read_of w ≡ Outside
+pub clashing_outside : (fs : List Fixed) → all (clash (fs ⇨ (λ w. Err Outside))) families ≡ true → (w : ℕ) → fits w fs ≡ true → read_of w ≡ Err Outside
 unfolding read_of
 clashing_outside fs c w t =
-    ⊎_elim (λ h. absurd (first_only w (fs ⇨ (λ w. Outside)) families (and_both _ _ c families_apart) h.0 h.1 t)) (λ n. n.1) (found w families)
+    ⊎_elim (λ h. absurd (first_only w (fs ⇨ (λ w. Err Outside)) families (and_both _ _ c families_apart) h.0 h.1 t)) (λ n. n.1) (found w families)
 
 -- A table with all its rows, in any order and with any further ones, as long as no word fits two, reads every word that was not outside as before;
-pub settled : (rows : List FamilyRow) → apart rows ≡ true → Among families rows → (w : ℕ) → (read_of w ≡ Outside → ⊥) → read_by rows w ≡ read_of w
+pub settled : (rows : List FamilyRow) → apart rows ≡ true → Among families rows → (w : ℕ) → (read_of w ≡ Err Outside → ⊥) → read_by rows w ≡ read_of w
 unfolding read_of
 settled rows a m w inside =
     still w families rows a (λ k h. let r = among w families rows m k h in (r.0, r.1, ap (λ (s : FamilyRow). s.means w) r.2)) inside
 
 -- .. and a row that is added takes only words that were outside.
 pub added : (rows : List FamilyRow) → apart rows ≡ true → Among families rows
-    → (w j : ℕ) → FitsAt rows w j → ((k : ℕ) → k < length families → row_at rows j ≡ row_at families k → ⊥) → read_of w ≡ Outside
+    → (w j : ℕ) → FitsAt rows w j → ((k : ℕ) → k < length families → row_at rows j ≡ row_at families k → ⊥) → read_of w ≡ Err Outside
 unfolding read_of
 added rows a m w j h new =
     ⊎_elim
@@ -215,7 +215,7 @@ any_order rows m n w =
 
 -- A witness that the premises can be met: our table with one row more in front, that of a prefetch, which is not wanted.
 abbrev pub another : FamilyRow
-another = (bits_are 31 25 0b1000010 ∷ bits_are 24 22 0b111 ∷ bits_are 15 15 0b0 ∷ bits_are 4 4 0b0 ∷ []) ⇨ (λ w. Undefined)
+another = (bits_are 31 25 0b1000010 ∷ bits_are 24 22 0b111 ∷ bits_are 15 15 0b0 ∷ bits_are 4 4 0b0 ∷ []) ⇨ (λ w. Err Undefined)
 
 abbrev pub longer : List FamilyRow
 longer = another ∷ families
@@ -229,8 +229,8 @@ longer_has k h = (suc k, omega arith, refl)
 
 -- No word fits two of its rows, and it has all of ours; so every word that was not outside is read as before, and the prefetch's word 85C00000, which the
 -- new row takes, was outside.
-pub longer_takes : (apart longer ≡ true) × Among families longer × ((w : ℕ) → (read_of w ≡ Outside → ⊥) → read_by longer w ≡ read_of w)
-    × (read_by longer 0x85C00000 ≡ Undefined) × (read_of 0x85C00000 ≡ Outside)
+pub longer_takes : (apart longer ≡ true) × Among families longer × ((w : ℕ) → (read_of w ≡ Err Outside → ⊥) → read_by longer w ≡ read_of w)
+    × (read_by longer 0x85C00000 ≡ Err Undefined) × (read_of 0x85C00000 ≡ Err Outside)
 longer_takes =
     let here : FitsAt longer 0x85C00000 0 = record { there = omega arith; fitting = refl } in (
       longer_apart,

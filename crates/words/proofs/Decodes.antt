@@ -6,18 +6,18 @@ use mathlib.Core.Logic.{◌↔◌}
 use Rattle.ground.proofs.Laws.{if_cases}
 use Rattle.words.specs.Families.{read_of}
 use Rattle.words.specs.Layouts.{Family, undefined_in, insn_of, means_of, LaidOut, Means}
-use Rattle.words.specs.Insns.{Insn, Decoded, Outside, Undefined, Is}
+use Rattle.words.specs.Insns.{Insn, Ok, Err, Decoded, Outside, Undefined}
 use Rattle.words.proofs.Layouts.{reads}
 use Rattle.words.proofs.Written.{written_out}
 
 abbrev Inside : Decoded → Type 0
-Inside Outside = ⊥
-Inside Undefined = Unit {0}
-Inside (Is i) = Unit {0}
+Inside (Ok i) = Unit {0}
+Inside (Err Outside) = ⊥
+Inside (Err Undefined) = Unit {0}
 
 -- no row says outside
 inside : (f : Family) → Inside (means_of f)
-inside f = if_cases Inside (undefined_in f) Undefined (Is (insn_of f)) (λ _. tt) (λ _. tt)
+inside f = if_cases Inside (undefined_in f) (Err Undefined) (Ok (insn_of f)) (λ _. tt) (λ _. tt)
 
 read_written : (w : ℕ) (x : LaidOut w) → read_of w ≡ means_of x.0
 read_written w x = ap read_of x.2 ∙ reads x.0 x.1
@@ -27,20 +27,20 @@ pub means_read : (w : ℕ) (d : Decoded) → Means w d → read_of w ≡ d
 means_read w d y = read_written w y.0 ∙ y.1
 
 module _ (w : ℕ) (small : w < 2 ^ 32) where
-  pub outside_exactly : (read_of w ≡ Outside) ↔ (LaidOut w → ⊥)
+  pub outside_exactly : (read_of w ≡ Err Outside) ↔ (LaidOut w → ⊥)
   outside_exactly = (λ e x. subst Inside (sym (read_written w x) ∙ e) (inside x.0), go (read_of w) refl)
     where
-      go : (d : Decoded) → read_of w ≡ d → (LaidOut w → ⊥) → read_of w ≡ Outside
-      go Outside e h = e
-      go Undefined e h = absurd (h (written_out w small (λ o. subst Inside (sym e ∙ o) tt)))
-      go (Is i) e h = absurd (h (written_out w small (λ o. subst Inside (sym e ∙ o) tt)))
+      go : (d : Decoded) → read_of w ≡ d → (LaidOut w → ⊥) → read_of w ≡ Err Outside
+      go (Err Outside) e h = e
+      go (Err Undefined) e h = absurd (h (written_out w small (λ o. subst Inside (sym e ∙ o) tt)))
+      go (Ok i) e h = absurd (h (written_out w small (λ o. subst Inside (sym e ∙ o) tt)))
 
-  pub decodes_exactly : (d : Decoded) → (d ≡ Outside → ⊥) → (read_of w ≡ d) ↔ Means w d
+  pub decodes_exactly : (d : Decoded) → (d ≡ Err Outside → ⊥) → (read_of w ≡ d) ↔ Means w d
   decodes_exactly d h = (λ e. let x = written_out w small (λ o. h (sym e ∙ o)) in (x, sym (read_written w x) ∙ e), means_read w d)
 
   -- the other way round, of an undefined word and of an instruction
-  pub undefined_means : read_of w ≡ Undefined → Means w Undefined
-  undefined_means = (decodes_exactly Undefined (λ o. subst Inside o tt)).0
+  pub undefined_means : read_of w ≡ Err Undefined → Means w (Err Undefined)
+  undefined_means = (decodes_exactly (Err Undefined) (λ o. subst Inside o tt)).0
 
-  pub insn_means : (i : Insn) → read_of w ≡ Is i → Means w (Is i)
-  insn_means i = (decodes_exactly (Is i) (λ o. subst Inside o tt)).0
+  pub insn_means : (i : Insn) → read_of w ≡ Ok i → Means w (Ok i)
+  insn_means i = (decodes_exactly (Ok i) (λ o. subst Inside o tt)).0

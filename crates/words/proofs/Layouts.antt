@@ -10,14 +10,14 @@ use Rattle.ground.specs.declared.Size.{Size}
 use Rattle.ground.specs.Pieces.{bits, word, FitWidths}
 use Rattle.ground.proofs.Pieces.{Placed, laid, joined}
 use Rattle.words.specs.Dtypes.{plain_of}
-use Rattle.words.specs.Insns.{insn_with, Shape, Governing, Dtype}
+use Rattle.words.specs.Insns.{insn_with, Shape, Option, Dtype}
 use Rattle.words.specs.Families.{registers_of, scalar_of, families, read_of}
 use Rattle.words.specs.Layouts.{Family, layout, registers_by, means_of}
 use Rattle.words.specs.Layouts.Family.{replicate_keep, replicate_post, ld1r_element, ld1_immediate, ld1_scalar, block_immediate, block_scalar}
 use Rattle.words.proofs.Apart.{row_reads}
 
 -- the parts of an instruction are where their names say
-pub insn_parts : (d : Dtype) (g : Governing) (rn rt n : ℕ) (s : Shape) → let i = insn_with d g rn rt n s in
+pub insn_parts : (d : Dtype) (g : Option ℕ) (rn rt n : ℕ) (s : Shape) → let i = insn_with d g rn rt n s in
     (i.element ≡ d) × (i.governing ≡ g) × (i.base ≡ rn) × (i.target ≡ rt) × (i.registers ≡ n) × (i.shape ≡ s)
 insn_parts d g rn rt n s = (refl, refl, refl, refl, refl, refl)
 

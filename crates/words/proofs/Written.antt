@@ -10,22 +10,22 @@ use Rattle.ground.proofs.Pieces.{Placed, placed_fit, relaid, halves}
 use Rattle.words.specs.Families.{families, choices, read_of}
 use Rattle.words.specs.Layouts.{Family, layout, LaidOut}
 use Rattle.words.specs.Layouts.Family.{replicate_keep, replicate_post, ld1r_element, ld1_immediate, ld1_scalar, block_immediate, block_scalar}
-use Rattle.words.specs.Insns.{Decoded, Outside}
+use Rattle.words.specs.Insns.{Err, Decoded, Outside}
 
 -- what a row's tests say of the word
 ruleset met = (eqb-true, and_left, and_right)
 
 module _ (w : ℕ) (h : w < 2 ^ 32) where
   abbrev Found : Decoded → Type 0
-  Found d = (d ≡ Outside → ⊥) → LaidOut w
+  Found d = (d ≡ Err Outside → ⊥) → LaidOut w
 
   row : (f : Family) {d : Decoded} → w < 2 ^ widths (layout f) → Placed w (layout f) → Found d
   row f l q _ = (f, placed_fit (layout f) w q, relaid (layout f) w l q)
 
-  pub written_out : (read_of w ≡ Outside → ⊥) → LaidOut w
+  pub written_out : (read_of w ≡ Err Outside → ⊥) → LaidOut w
   unfolding read_of families
   written_out =
-      first_each Found (choices families w) Outside
+      first_each Found (choices families w) (Err Outside)
       ((λ t.
       let a = halves w 23 6 1 0b0011010 (search met) in
       let b = halves w 14 5 2 0b0000011 (search met) in

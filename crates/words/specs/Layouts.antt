@@ -3,7 +3,7 @@ use Rattle.std.specs.Prelude.{if◌then◌else◌, ℕ, ◌+◌, ◌*◌, ◌≡
 use Rattle.ground.specs.Sizes.{size_of}
 use Rattle.ground.specs.Pieces.{Piece, ◌▹◌, word, FitWidths}
 use Rattle.words.specs.Dtypes.{plain_of, dtype_of}
-use Rattle.words.specs.Insns.{insn_with, Insn, Replicate, ByElement, Contiguous, Block, None, By, Imm, Reg, Keep, Post, Decoded, Undefined, Is}
+use Rattle.words.specs.Insns.{insn_with, Insn, Replicate, ByElement, Contiguous, Block, Imm, Reg, Some, None, Ok, Err, Decoded, Undefined}
 
 -- a row with its fields: LD1R to LD4R with no offset and post-index, o being the last bit of the opcode; LD1R by element; LD1; and a block's,
 -- which is LD1RQ, or LD1RO where it is wide
@@ -53,16 +53,16 @@ registers_by o r = if eqb o 0 then (if eqb r 0 then 1 else 2) else (if eqb r 0 t
 
 -- the instruction of a row; "dtype is also dh then dl"
 abbrev pub insn_of : Family → Insn
-insn_of (replicate_keep q l r o s size rn rt) = insn_with (plain_of (size_of size)) None rn rt (registers_by o r) (Replicate q Keep)
-insn_of (replicate_post q l r rm o s size rn rt) = insn_with (plain_of (size_of size)) None rn rt (registers_by o r) (Replicate q (Post rm))
-insn_of (ld1r_element dh imm6 dl pg rn zt) = insn_with (dtype_of (dh * 4 + dl)) (By pg) rn zt 1 (ByElement imm6)
-insn_of (ld1_immediate dtype imm4 pg rn zt) = insn_with (dtype_of dtype) (By pg) rn zt 1 (Contiguous (Imm imm4))
-insn_of (ld1_scalar dtype rm pg rn zt) = insn_with (dtype_of dtype) (By pg) rn zt 1 (Contiguous (Reg rm))
-insn_of (block_immediate wide msz imm4 pg rn zt) = insn_with (plain_of (size_of msz)) (By pg) rn zt 1 (Block wide (Imm imm4))
-insn_of (block_scalar wide msz rm pg rn zt) = insn_with (plain_of (size_of msz)) (By pg) rn zt 1 (Block wide (Reg rm))
+insn_of (replicate_keep q l r o s size rn rt) = insn_with (plain_of (size_of size)) None rn rt (registers_by o r) (Replicate (eqb q 1) None)
+insn_of (replicate_post q l r rm o s size rn rt) = insn_with (plain_of (size_of size)) None rn rt (registers_by o r) (Replicate (eqb q 1) (Some rm))
+insn_of (ld1r_element dh imm6 dl pg rn zt) = insn_with (dtype_of (dh * 4 + dl)) (Some pg) rn zt 1 (ByElement imm6)
+insn_of (ld1_immediate dtype imm4 pg rn zt) = insn_with (dtype_of dtype) (Some pg) rn zt 1 (Contiguous (Imm imm4))
+insn_of (ld1_scalar dtype rm pg rn zt) = insn_with (dtype_of dtype) (Some pg) rn zt 1 (Contiguous (Reg rm))
+insn_of (block_immediate wide msz imm4 pg rn zt) = insn_with (plain_of (size_of msz)) (Some pg) rn zt 1 (Block wide (Imm imm4))
+insn_of (block_scalar wide msz rm pg rn zt) = insn_with (plain_of (size_of msz)) (Some pg) rn zt 1 (Block wide (Reg rm))
 
 abbrev pub means_of : Family → Decoded
-means_of f = if undefined_in f then Undefined else Is (insn_of f)
+means_of f = if undefined_in f then Err Undefined else Ok (insn_of f)
 
 -- a word is laid out as a row is, of numbers that fit
 abbrev pub LaidOut : ℕ → Type 0

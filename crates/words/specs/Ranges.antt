@@ -2,22 +2,22 @@
 use Rattle.std.specs.Prelude.{ℕ, ◌≤◌, ◌<◌, ◌≡◌}
 use Rattle.ground.specs.Sizes.{bytes_of}
 use Rattle.words.specs.Dtypes.{plain_of, dtype_of}
-use Rattle.words.specs.Insns.{Insn, Shape, Replicate, ByElement, Contiguous, Block, Governing, None, By, Dtype, Offset, Imm, Reg, Back, Keep, Post}
-use Rattle.words.specs.Insns.{Decoded, Outside, Undefined, Is}
+use Rattle.words.specs.Insns.{Insn, Shape, Replicate, ByElement, Contiguous, Block, Dtype, Offset, Imm, Reg}
+use Rattle.words.specs.Insns.{Option, Some, None, Ok, Err, Decoded}
 
 -- a scalar offset is never register 31
 abbrev pub OffsetInRange : Offset → Type 0
 OffsetInRange (Imm i) = i < 16
 OffsetInRange (Reg r) = r < 31
 
-abbrev pub BackInRange : Back → Type 0
-BackInRange Keep = Unit {0}
-BackInRange (Post r) = r < 32
+abbrev pub BackInRange : Option ℕ → Type 0
+BackInRange None = Unit {0}
+BackInRange (Some r) = r < 32
 
 -- one of the first eight predicates governs
-abbrev pub Governed : Governing → Type 0
+abbrev pub Governed : Option ℕ → Type 0
 Governed None = ⊥
-Governed (By g) = g < 8
+Governed (Some g) = g < 8
 
 -- an element is a row of the dtype table, or is as wide in memory as in its lane
 abbrev pub InTable : Dtype → Type 0
@@ -28,7 +28,7 @@ AsWideAsLane d = d ≡ plain_of d.memory
 
 -- nothing governs LD1R to LD4R, and every other load is governed and has one target
 abbrev pub ShapeInRange : Insn → Shape → Type 0
-ShapeInRange i (Replicate q back) = (q < 2) × BackInRange back × AsWideAsLane i.element × (i.governing ≡ None)
+ShapeInRange i (Replicate q back) = BackInRange back × AsWideAsLane i.element × (i.governing ≡ None)
 ShapeInRange i (ByElement imm6) = (imm6 < 64) × Governed i.governing × InTable i.element × (i.registers ≡ 1)
 ShapeInRange i (Contiguous offset) = OffsetInRange offset × Governed i.governing × InTable i.element × (i.registers ≡ 1)
 ShapeInRange i (Block wide offset) = OffsetInRange offset × Governed i.governing × AsWideAsLane i.element × (i.registers ≡ 1)
@@ -42,6 +42,5 @@ pub record InsnInRange (i : Insn) : Type 0 where
   pub shape : ShapeInRange i i.shape
 
 abbrev pub InRange : Decoded → Type 0
-InRange Outside = Unit {0}
-InRange Undefined = Unit {0}
-InRange (Is i) = InsnInRange i
+InRange (Ok i) = InsnInRange i
+InRange (Err e) = Unit {0}

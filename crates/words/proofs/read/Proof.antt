@@ -3,6 +3,7 @@
 use mathlib.Core.Path.{ap, ◌∙◌}
 use lib.Dec.{lit<}
 use borrow.Author.Tests.{ne_eqb}
+use Rattle.words.specs.Insns.{Ok}
 use Rattle.words.specs.Families.{scalar_of, families, read_of}
 use Rattle.words.proofs.Apart.{row_is}
 use Rattle.words.proofs.read.Statement.{statement}
@@ -25,11 +26,11 @@ unfolding families
 read_spec =
     tie.close (tie.spec
     (λ c κs. c.if-word-eq0.true) (λ c. c.replicate_rows.ensures) (λ c κs. tt)
-    (λ c. row_is 2 _ (lit< tt) c.before.if-top-word.true c.by_element.ensures) (λ c κs. tt)
-    (λ c. row_is 3 _ (lit< tt) c.before.if-top-word-2.true c.contiguous.ensures) (λ c κs. tt) (λ c κs. tt)
+    (λ c. row_is 2 _ (lit< tt) c.before.if-top-word.true (ap Ok c.by_element.ensures)) (λ c κs. tt)
+    (λ c. row_is 3 _ (lit< tt) c.before.if-top-word-2.true (ap Ok c.contiguous.ensures)) (λ c κs. tt) (λ c κs. tt)
     (λ c. row_is 4 _ (lit< tt) c.before.before.if-top-op.true (c.scalar.ensures ∙ ap (scalar_of _) c.before.contiguous-then-top-op.ensures)) (λ c κs. tt)
-    (λ c. row_is 5 _ (lit< tt) c.before.if-top-word-3.true c.block.ensures) (λ c κs. tt) (λ c κs. tt)
+    (λ c. row_is 5 _ (lit< tt) c.before.if-top-word-3.true (ap Ok c.block.ensures)) (λ c κs. tt) (λ c κs. tt)
     (λ c. row_is 6 _ (lit< tt) c.before.before.if-top-word-4.true (c.scalar-then-top-word-4.ensures ∙ ap (scalar_of _) c.before.block-then-top-word-4.ensures)) (λ c κs. tt)
-    (λ c. row_is 7 _ (lit< tt) c.before.if-top-word-5.true c.block-then-top-word-5.ensures) (λ c κs. tt) (λ c κs. tt)
+    (λ c. row_is 7 _ (lit< tt) c.before.if-top-word-5.true (ap Ok c.block-then-top-word-5.ensures)) (λ c κs. tt) (λ c κs. tt)
     (λ c. row_is 8 _ (lit< tt) c.before.before.if-top-word-6.true (c.scalar-then-top-word-6.ensures ∙ ap (scalar_of _) c.before.block-then-top-word-6.ensures))
     none)
