@@ -8,7 +8,7 @@ ghost use Rattle.ground.specs.Sizes.{BytesPromise, SizePromise};
 pub use numbers::{number, put};
 
 // A size by its bits, as the scope of work writes them.
-#[derive(Clone, Copy)]
+#[derive(Clone, Copy, Debug, PartialEq, Eq)]
 pub enum Size {
     B8,
     B16,
@@ -29,18 +29,15 @@ impl Size {
     }
 
     // The size that a field of two bits names: 8 << field bits. A field has no other number; a larger one is read as 3.
+    #[tactic(auto, unfolding(crate::specs::Sizes::size_of))]
     pub fn of(field: u32) -> Size
         ensures { SizePromise field result }
     {
-        if field == 0 {
-            return Size::B8;
+        match field {
+            0 => Size::B8,
+            1 => Size::B16,
+            2 => Size::B32,
+            _ => Size::B64,
         }
-        if field == 1 {
-            return Size::B16;
-        }
-        if field == 2 {
-            return Size::B32;
-        }
-        Size::B64
     }
 }
