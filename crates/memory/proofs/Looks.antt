@@ -1,13 +1,11 @@
 -- One byte: a load finds it exactly where an area holds the address with the read right of its page, is denied exactly where
 -- the right is missing, and finds nothing exactly where neither area holds the address.
-use Rattle.std.proofs.Common.{◌≡◌, ℕ, ◌-◌, ◌/◌, ◌%◌, ◌<◌, Bool, false, eqb, ◌⊎◌, ◌↔◌, length, get_or, set, sym, ap, ◌∙◌, inl, inr, ⊎_elim, arith, get_or-set_other, get_or-set_same, eq-eqb, ne_eqb, eqb-true}
+use Rattle.std.proofs.Common.{◌≡◌, ℕ, ◌-◌, ◌/◌, ◌%◌, ◌<◌, Bool, false, eqb, ◌⊎◌, ◌↔◌, length, Ok, Err, get_or, set, sym, ap, ◌∙◌, inl, inr, ⊎_elim, arith, get_or-set_other, get_or-set_same, eq-eqb, ne_eqb, eqb-true}
 use borrow.Author.Tests.{eqb-false}
 use Rattle.ground.proofs.Laws.{true_or_false}
 use Rattle.memory.specs.declared.Fault.TheVariants.{Nowhere, Denied}
-use Rattle.memory.specs.declared.Cell.{Cell}
-use Rattle.memory.specs.declared.Cell.TheVariants.{Byte, Bad}
 use Rattle.memory.specs.Areas.{page_bytes, Area, Areas, covers, place_of}
-use Rattle.memory.specs.Bytes.{judged, look_of}
+use Rattle.memory.specs.Bytes.{Cell, judged, look_of}
 use Rattle.memory.specs.Said.{Holds, Right, AreasAccepted, OneOf, in_flash, in_ram}
 use Rattle.memory.proofs.Places.{holds_exactly, holds_not}
 
@@ -19,11 +17,11 @@ holds_at r a = covers r.start (length r.bytes) a
 abbrev judged_at : Area → ℕ → Cell
 judged_at r a = judged r.bytes r.rights (a - r.start)
 
-judged_right : (r : Area) (a : ℕ) → Right r a → judged_at r a ≡ Byte (get_or r.bytes (a - r.start) 0)
+judged_right : (r : Area) (a : ℕ) → Right r a → judged_at r a ≡ Ok (get_or r.bytes (a - r.start) 0)
 unfolding judged
 judged_right r a h = rw (eq-eqb _ _ h)
 
-judged_denied : (r : Area) (a : ℕ) → (Right r a → ⊥) → judged_at r a ≡ Bad Denied
+judged_denied : (r : Area) (a : ℕ) → (Right r a → ⊥) → judged_at r a ≡ Err Denied
 unfolding judged
 judged_denied r a h = rw (ne_eqb _ _ h)
 
@@ -58,11 +56,11 @@ module _ (m : Areas) (a : ℕ) where
   unfolding look_of place_of
   from_ram e h = rw (e, (holds_exactly m.ram a).1 h)
 
-  from_none : holds_at m.flash a ≡ false → holds_at m.ram a ≡ false → look_of m a ≡ Bad Nowhere
+  from_none : holds_at m.flash a ≡ false → holds_at m.ram a ≡ false → look_of m a ≡ Err Nowhere
   unfolding look_of place_of
   from_none e h = rw (e, h)
 
-judged_somewhere : (r : Area) (a : ℕ) → judged_at r a ≡ Bad Nowhere → ⊥
+judged_somewhere : (r : Area) (a : ℕ) → judged_at r a ≡ Err Nowhere → ⊥
 judged_somewhere r a e =
     ⊎_elim
     (λ h. let p = judged_right r a h in let z : ◌≡◌ {A = ℕ} 0 1 = cc in omega arith)
@@ -75,7 +73,7 @@ module _ (m : Areas) (a : ℕ) where
   Found : Type 0
   Found =
       ((r : Area) × OneOf m r × Holds r a × (look_of m a ≡ judged_at r a))
-      ⊎ ((Holds m.flash a → ⊥) × (Holds m.ram a → ⊥) × (look_of m a ≡ Bad Nowhere))
+      ⊎ ((Holds m.flash a → ⊥) × (Holds m.ram a → ⊥) × (look_of m a ≡ Err Nowhere))
 
   found : Found
   unfolding Found
@@ -92,7 +90,7 @@ module _ (m : Areas) (a : ℕ) where
   held_none h r in_flash k = h.0 k
   held_none h r in_ram k = h.1 k
 
-  pub nowhere_exactly : (look_of m a ≡ Bad Nowhere) ↔ ((Holds m.flash a → ⊥) × (Holds m.ram a → ⊥))
+  pub nowhere_exactly : (look_of m a ≡ Err Nowhere) ↔ ((Holds m.flash a → ⊥) × (Holds m.ram a → ⊥))
   unfolding Found
   nowhere_exactly = (
     λ e. ⊎_elim (λ w. absurd (judged_somewhere w.0 a (sym w.3 ∙ e))) (λ w. (w.0, w.1)) found,
@@ -108,13 +106,13 @@ module _ (m : Areas) (t : AreasAccepted m) (a : ℕ) where
       (λ e. from_ram m a e h)
       (true_or_false (holds_at m.flash a))
 
-  pub right_byte : {r : Area} → OneOf m r → Holds r a → Right r a → look_of m a ≡ Byte (get_or r.bytes (a - r.start) 0)
+  pub right_byte : {r : Area} → OneOf m r → Holds r a → Right r a → look_of m a ≡ Ok (get_or r.bytes (a - r.start) 0)
   right_byte {r} o h k = looked o h ∙ judged_right r a k
 
-  pub no_right_denied : {r : Area} → OneOf m r → Holds r a → (Right r a → ⊥) → look_of m a ≡ Bad Denied
+  pub no_right_denied : {r : Area} → OneOf m r → Holds r a → (Right r a → ⊥) → look_of m a ≡ Err Denied
   no_right_denied {r} o h k = looked o h ∙ judged_denied r a k
 
-  pub denied_exactly : (look_of m a ≡ Bad Denied) ↔ ((r : Area) × OneOf m r × Holds r a × (Right r a → ⊥))
+  pub denied_exactly : (look_of m a ≡ Err Denied) ↔ ((r : Area) × OneOf m r × Holds r a × (Right r a → ⊥))
   unfolding Found
   denied_exactly = (
     λ e. ⊎_elim
@@ -124,7 +122,7 @@ module _ (m : Areas) (t : AreasAccepted m) (a : ℕ) where
     λ w. no_right_denied w.1 w.2 w.3,
   )
 
-  pub byte_exactly : (b : ℕ) → (look_of m a ≡ Byte b) ↔ ((r : Area) × OneOf m r × Holds r a × Right r a × (b ≡ get_or r.bytes (a - r.start) 0))
+  pub byte_exactly : (b : ℕ) → (look_of m a ≡ Ok b) ↔ ((r : Area) × OneOf m r × Holds r a × Right r a × (b ≡ get_or r.bytes (a - r.start) 0))
   unfolding Found
   byte_exactly b = (
     λ e. ⊎_elim
@@ -134,5 +132,5 @@ module _ (m : Areas) (t : AreasAccepted m) (a : ℕ) where
         (right_or_not w.0 a))
         (λ w. let q = w.2 in let z : ◌≡◌ {A = ℕ} 0 1 = cc in absurd (omega arith))
         (found m a),
-    λ w. right_byte w.1 w.2 w.3 ∙ ap Byte (sym w.4),
+    λ w. right_byte w.1 w.2 w.3 ∙ ap Ok (sym w.4),
   )

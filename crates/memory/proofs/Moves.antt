@@ -46,58 +46,10 @@ pub wrap_round : (z : ℤ) → wrapℤ (z +ℤ pos (2 ^ 64)) ≡ wrapℤ z
 wrap_round (pos a) = wrap_on (pos a) (2 ^ 64) ∙ omega arith
 wrap_round (negsuc a) = wrap_on (negsuc a) (2 ^ 64) ∙ omega arith
 
--- ---- how the code goes back
-module _ (z : ℤ) (fits : SFits w64 z) where
-  pub read : to_z w64 (of_z w64 z) ≡ z
-  read = to_z-of_z fits
-
-  module _ (low : lt_z (to_z w64 (of_z w64 z)) (pos 0) ≡ true) where
-    below : lt_z z (pos 0) ≡ true
-    below = rw read at low
-
-    small : mag z < 2 ^ 63
-    small = fits.sfits
-
-    -- one byte nearer
-    pub nearer : to_z w64 (of_z w64 z) +ℤ pos 1 ≡ neg_ℤ (pos (mag z))
-    nearer = rw read (go z below)
-      where
-        go : (z : ℤ) → lt_z z (pos 0) ≡ true → z +ℤ pos 1 ≡ neg_ℤ (pos (mag z))
-        go (pos n) e = absurd (omega (arith, ltb-true n 0 e))
-        go (negsuc zero) e = refl
-        go (negsuc (suc n)) e = rw (lt-ltb 1 (suc (suc n)) (omega arith)) (ap negsuc (omega arith))
-
-    pub nearer_fits : SFits w64 (to_z w64 (of_z w64 z) +ℤ pos 1)
-    nearer_fits = rw nearer (go (mag z) small)
-      where
-        go : (n : ℕ) → n < 2 ^ 63 → SFits w64 (neg_ℤ (pos n))
-        go zero h = record { sfits = h }
-        go (suc n) h = record { sfits = omega arith }
-
-    pub turned : pos 0 -ℤ to_z w64 (of_z w64 (to_z w64 (of_z w64 z) +ℤ pos 1)) ≡ pos (mag z)
-    turned = rw (to_z-of_z nearer_fits, nearer, neg_ℤ-neg_ℤ (pos (mag z))) (ap pos (zero-add (mag z)))
-
-    pub turned_fits : SFits w64 (pos 0 -ℤ to_z w64 (of_z w64 (to_z w64 (of_z w64 z) +ℤ pos 1)))
-    turned_fits = rw turned (record { sfits = small })
-
-    pub magnitude : to_z w64 (of_z w64 (pos 0 -ℤ to_z w64 (of_z w64 (to_z w64 (of_z w64 z) +ℤ pos 1)))) ≡ pos (mag z)
-    magnitude = to_z-of_z turned_fits ∙ turned
-
-    pub gone_back : (a r s : ℕ) → r < 2 ^ 64 → s < 2 ^ 64 → (r + mag z) % 2 ^ 64 ≡ a → (s + 1) % 2 ^ 64 ≡ r → s ≡ moved_of a z
-    gone_back = go z below small
-      where
-        go : (z : ℤ) → lt_z z (pos 0) ≡ true → mag z < 2 ^ 63
-            → (a r s : ℕ) → r < 2 ^ 64 → s < 2 ^ 64 → (r + mag z) % 2 ^ 64 ≡ a → (s + 1) % 2 ^ 64 ≡ r → s ≡ moved_of a z
-        go (pos n) e h a r s k l p q = absurd (omega (arith, ltb-true n 0 e))
-        go (negsuc n) e h a r s k l p q = unfold moved_of in sub_cases (λ (z : ℤ). s ≡ wrapℤ z) a (suc n) (λ m. omega arith) (λ m. omega arith)
-
-  module _ (high : lt_z (to_z w64 (of_z w64 z)) (pos 0) ≡ false) where
-    pub upward : to_z w64 (of_z w64 z) ≡ pos (mag z)
-    upward = read ∙ go z (rw read at high)
-      where
-        go : (z : ℤ) → lt_z z (pos 0) ≡ false → z ≡ pos (mag z)
-        go (pos n) e = refl
-        go (negsuc n) e = let o : ◌≡◌ {A = ℕ} 0 1 = cc in absurd (omega arith)
-
-    pub gone_on : (a r : ℕ) → r ≡ (a + mag z) % 2 ^ 64 → r ≡ moved_of a z
-    gone_on a r e = e ∙ sym (moved_pos a (mag z)) ∙ ap (moved_of a) (sym upward ∙ read)
+-- ---- what the library's addition of a signed number to an unsigned one gives
+pub moved_signed : (a : ℕ) (z : ℤ) → SFits w64 z → (a + of_z w64 z) % 2 ^ 64 ≡ moved_of a z
+unfolding moved_of
+moved_signed a (pos n) h = omega arith
+moved_signed a (negsuc n) h =
+    let l : suc n ≤ 2 ^ 63 = h.sfits in
+    sub_cases (λ (z : ℤ). (a + of_z w64 (negsuc n)) % 2 ^ 64 ≡ wrapℤ z) a (suc n) (λ k. omega arith) (λ k. omega arith)

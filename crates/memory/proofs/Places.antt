@@ -1,8 +1,8 @@
 -- Where an address lies: the test `covers` is `Holds`, and a place lies within its area.
-use Rattle.std.proofs.Common.{if◌then◌else◌, ◌≡◌, ℕ, ◌+◌, ◌-◌, ◌<◌, ◌≤◌, Bool, true, false, ltb, ◌↔◌, length, refl, ⊎_elim, arith, ltb-false, ltb-true, le-ltb, lt-ltb}
+use Rattle.std.proofs.Common.{if◌then◌else◌, ◌≡◌, ℕ, ◌+◌, ◌-◌, ◌<◌, ◌≤◌, Bool, true, false, ltb, ◌↔◌, Option, None, Some, length, refl, ⊎_elim, arith, ltb-false, ltb-true, le-ltb, lt-ltb}
 use Rattle.ground.proofs.Laws.{if_cases, true_or_false, never}
 use Rattle.memory.specs.declared.Place.{Place}
-use Rattle.memory.specs.declared.Place.TheVariants.{Flash, Ram, Nowhere}
+use Rattle.memory.specs.declared.Place.TheVariants.{Flash, Ram}
 use Rattle.memory.specs.Areas.{Area, Areas, covers, place_of, place_in}
 use Rattle.memory.specs.Said.{Holds}
 
@@ -30,30 +30,30 @@ module _ (r : Area) (a : ℕ) where
 
 -- the area that holds an address is its place, flash before RAM
 module _ (m : Areas) (a : ℕ) where
-  pub place_flash : Holds m.flash a → place_in m a ≡ Flash (a - m.flash.start)
+  pub place_flash : Holds m.flash a → place_in m a ≡ Some (Flash (a - m.flash.start))
   unfolding place_of
   place_flash h = rw ((holds_exactly m.flash a).1 h)
 
-  pub place_ram : (Holds m.flash a → ⊥) → Holds m.ram a → place_in m a ≡ Ram (a - m.ram.start)
+  pub place_ram : (Holds m.flash a → ⊥) → Holds m.ram a → place_in m a ≡ Some (Ram (a - m.ram.start))
   unfolding place_of
   place_ram f h = rw ((holds_not m.flash a).1 f, (holds_exactly m.ram a).1 h)
 
-  pub place_nowhere : (Holds m.flash a → ⊥) → (Holds m.ram a → ⊥) → place_in m a ≡ Nowhere
+  pub place_nowhere : (Holds m.flash a → ⊥) → (Holds m.ram a → ⊥) → place_in m a ≡ None
   unfolding place_of
   place_nowhere f h = rw ((holds_not m.flash a).1 f, (holds_not m.ram a).1 h)
 
 -- a place, between an area of fn bytes and one of rn
-abbrev pub PlaceWithin : ℕ → ℕ → Place → Type 0
-PlaceWithin fn rn (Flash k) = k < fn
-PlaceWithin fn rn (Ram k) = k < rn
-PlaceWithin fn rn Nowhere = Unit {0}
+abbrev pub PlaceWithin : ℕ → ℕ → Option Place → Type 0
+PlaceWithin fn rn (Some (Flash k)) = k < fn
+PlaceWithin fn rn (Some (Ram k)) = k < rn
+PlaceWithin fn rn None = Unit {0}
 
 place_inside : (f fn r rn a : ℕ) → PlaceWithin fn rn (place_of f fn r rn a)
 unfolding place_of
 place_inside f fn r rn a =
-    if_cases (PlaceWithin fn rn) (covers f fn a) (Flash (a - f)) (if covers r rn a then Ram (a - r) else Nowhere)
+    if_cases (PlaceWithin fn rn) (covers f fn a) (Some (Flash (a - f))) (if covers r rn a then Some (Ram (a - r)) else None)
     (λ e. let h = held f fn a e in omega arith)
-    (λ _. if_cases (PlaceWithin fn rn) (covers r rn a) (Ram (a - r)) Nowhere (λ e. let h = held r rn a e in omega arith) (λ _. tt))
+    (λ _. if_cases (PlaceWithin fn rn) (covers r rn a) (Some (Ram (a - r))) None (λ e. let h = held r rn a e in omega arith) (λ _. tt))
 
-pub place_within : (f fn r rn a : ℕ) (p : Place) → place_of f fn r rn a ≡ p → PlaceWithin fn rn p
+pub place_within : (f fn r rn a : ℕ) (p : Option Place) → place_of f fn r rn a ≡ p → PlaceWithin fn rn p
 place_within f fn r rn a p e = rw e at (place_inside f fn r rn a)

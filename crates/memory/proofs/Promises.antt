@@ -1,20 +1,17 @@
 -- What the public functions promise, in document 01's words. These laws are stated of the promises themselves, so that none of them can be
 -- exchanged for another together with its code. Those of the window are in Windows.
-use Rattle.std.proofs.Common.{◌≡◌, ℕ, ◌+◌, ◌-◌, ◌%◌, ◌^◌, ◌<◌, Bool, true, ◌↔◌, get_or, pos, neg_ℤ, ◌∙◌}
+use Rattle.std.proofs.Common.{◌≡◌, ℕ, ◌+◌, ◌-◌, ◌%◌, ◌^◌, ◌<◌, Bool, true, ◌↔◌, Ok, Err, get_or, pos, neg_ℤ, ◌∙◌}
 use Rattle.ground.specs.Lists.{little}
 use Rattle.ground.specs.declared.Size.{Size}
 use Rattle.ground.specs.Sizes.{bytes_of}
 use Rattle.memory.specs.declared.Address.{Address}
 use Rattle.memory.specs.declared.Fault.{Fault}
 use Rattle.memory.specs.declared.Fault.TheVariants.{Nowhere, Denied}
-use Rattle.memory.specs.declared.Cell.{Cell}
-use Rattle.memory.specs.declared.Cell.TheVariants as C
-use Rattle.memory.specs.declared.Reading.{Reading}
-use Rattle.memory.specs.declared.Reading.TheVariants as R
+use Rattle.memory.specs.declared.BadByte.{BadByte}
 use Rattle.memory.specs.Addresses.{plus_of, PlusPromise, MovedPromise}
 use Rattle.memory.specs.Areas.{Area, Areas, AreasAcceptedPromise}
-use Rattle.memory.specs.Bytes.{look_of, BytePromise}
-use Rattle.memory.specs.Elements.{ElementPromise}
+use Rattle.memory.specs.Bytes.{Cell, look_of, BytePromise}
+use Rattle.memory.specs.Elements.{Reading, ElementPromise}
 use Rattle.memory.specs.Said.{Holds, Right, AreasAccepted, OneOf}
 use Rattle.memory.specs.Troubles.{FindsByte, byte_found}
 use Rattle.memory.proofs.Moves.{moved_pos, moved_home}
@@ -37,21 +34,21 @@ pub areas_accepted_said : (m : Areas) (r : Bool) → AreasAcceptedPromise m r �
 areas_accepted_said m r p = rw p (areas_exactly m)
 
 module _ (m : Areas) (a : ℕ) (r : Cell) (p : BytePromise m a r) where
-  pub byte_nowhere_said : (r ≡ C.Bad Nowhere) ↔ ((Holds m.flash a → ⊥) × (Holds m.ram a → ⊥))
+  pub byte_nowhere_said : (r ≡ Err Nowhere) ↔ ((Holds m.flash a → ⊥) × (Holds m.ram a → ⊥))
   byte_nowhere_said = rw p (nowhere_exactly m a)
 
-  pub byte_denied_said : AreasAccepted m → (r ≡ C.Bad Denied) ↔ ((q : Area) × OneOf m q × Holds q a × (Right q a → ⊥))
+  pub byte_denied_said : AreasAccepted m → (r ≡ Err Denied) ↔ ((q : Area) × OneOf m q × Holds q a × (Right q a → ⊥))
   byte_denied_said t = rw p (denied_exactly m t a)
 
   pub byte_found_said : AreasAccepted m → (b : ℕ)
-      → (r ≡ C.Byte b) ↔ ((q : Area) × OneOf m q × Holds q a × Right q a × (b ≡ get_or q.bytes (a - q.start) 0))
+      → (r ≡ Ok b) ↔ ((q : Area) × OneOf m q × Holds q a × Right q a × (b ≡ get_or q.bytes (a - q.start) 0))
   byte_found_said t b = rw p (byte_exactly m t a b)
 
 module _ (m : Areas) (a : ℕ) (s : Size) (r : Reading) (p : ElementPromise m a s r) (l : a < 2 ^ 64) where
-  pub element_value_said : (v : ℕ) → (r ≡ R.Value v)
+  pub element_value_said : (v : ℕ) → (r ≡ Ok v)
       ↔ (((k : ℕ) → k < bytes_of s → FindsByte (look_of m) (plus_of a k)) × (v ≡ little (λ k. byte_found (look_of m (plus_of a k))) 0 (bytes_of s)))
   element_value_said v = rw p (value_exactly (look_of m) a (bytes_of s) l v)
 
-  pub element_bad_said : (f : Fault) (x : Address) → (r ≡ R.Bad f x)
-      ↔ ((k : ℕ) × (k < bytes_of s) × (look_of m (plus_of a k) ≡ C.Bad f) × (x.0 ≡ plus_of a k) × ((j : ℕ) → j < k → FindsByte (look_of m) (plus_of a j)))
-  element_bad_said f x = rw p (bad_exactly (look_of m) a (bytes_of s) l f x)
+  pub element_bad_said : (x : BadByte) → (r ≡ Err x)
+      ↔ ((k : ℕ) × (k < bytes_of s) × (look_of m (plus_of a k) ≡ Err x.fault) × (x.at.0 ≡ plus_of a k) × ((j : ℕ) → j < k → FindsByte (look_of m) (plus_of a j)))
+  element_bad_said x = rw p (bad_exactly (look_of m) a (bytes_of s) l x)

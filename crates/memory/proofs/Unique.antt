@@ -1,17 +1,15 @@
 -- Each public function's promise determines its answer: two answers that meet it are one. Of a window the bytes and the place are
 -- determined; the ghost name of the reference is not, and no program can see it. `window` and `window_beside` have one promise.
-use Rattle.std.proofs.Common.{◌≡◌, ℕ, Bool, List, ℤ, Bor}
+use Rattle.std.proofs.Common.{◌≡◌, ℕ, Bool, List, Option, None, Some, ℤ, Bor}
 use Rattle.ground.proofs.Laws.{only_one}
 use Rattle.ground.specs.declared.Size.{Size}
 use Rattle.memory.specs.declared.Address.{Address}
 use Rattle.memory.specs.declared.Place.{Place}
-use Rattle.memory.specs.declared.Place.TheVariants.{Flash, Ram, Nowhere}
-use Rattle.memory.specs.declared.Cell.{Cell}
-use Rattle.memory.specs.declared.Reading.{Reading}
+use Rattle.memory.specs.declared.Place.TheVariants.{Flash, Ram}
 use Rattle.memory.specs.Addresses.{PlusPromise, MovedPromise}
 use Rattle.memory.specs.Areas.{Areas, AreasAcceptedPromise}
-use Rattle.memory.specs.Bytes.{BytePromise}
-use Rattle.memory.specs.Elements.{ElementPromise}
+use Rattle.memory.specs.Bytes.{Cell, BytePromise}
+use Rattle.memory.specs.Elements.{Reading, ElementPromise}
 use Rattle.memory.specs.Windows.{PartOf, Shows, shown_place, PlacePromise, WindowPromise}
 
 -- an address is its number
@@ -34,7 +32,7 @@ module _ (m : Areas) where
   pub element_unique : (a : ℕ) (s : Size) (x y : Reading) → ElementPromise m a s x → ElementPromise m a s y → x ≡ y
   element_unique a s x y p q = only_one p q
 
-  pub place_unique : (a : ℕ) (x y : Place) → PlacePromise m a x → PlacePromise m a y → x ≡ y
+  pub place_unique : (a : ℕ) (x y : Option Place) → PlacePromise m a x → PlacePromise m a y → x ≡ y
   place_unique a x y p q = only_one p q
 
 -- two parts of one slice, from one place to another
@@ -46,7 +44,7 @@ pub window_unique : (m : Areas) (a : ℕ) (flash ram x y : Bor (List ℕ))
     → WindowPromise m a flash ram x → WindowPromise m a flash ram y → (x.now ≡ y.now) × (x.ref_ptr ≡ y.ref_ptr)
 window_unique m a flash ram x y = go (shown_place m a)
   where
-    go : (p : Place) → Shows flash ram p x → Shows flash ram p y → (x.now ≡ y.now) × (x.ref_ptr ≡ y.ref_ptr)
-    go (Flash k) p q = part_unique p q
-    go (Ram k) p q = part_unique p q
-    go Nowhere p q = part_unique p q
+    go : (p : Option Place) → Shows flash ram p x → Shows flash ram p y → (x.now ≡ y.now) × (x.ref_ptr ≡ y.ref_ptr)
+    go (Some (Flash k)) p q = part_unique p q
+    go (Some (Ram k)) p q = part_unique p q
+    go None p q = part_unique p q

@@ -1,9 +1,11 @@
 -- Two read-only areas, flash and RAM: which are accepted, and where an address lies.
-use Rattle.std.specs.Prelude.{if◌then◌else◌, ◌≡◌, ℕ, ◌+◌, ◌-◌, ◌/◌, ◌%◌, ◌^◌, Bool, false, ◌||◌, List, [], ◌∷◌, length, ◌==◌, nat_le, nat_lt}
+use Rattle.std.specs.Prelude.{if◌then◌else◌, ◌≡◌, ℕ, ◌+◌, ◌-◌, ◌/◌, ◌%◌, ◌^◌, Bool, false, ◌||◌, List, [], ◌∷◌, Option, None, Some, length, ◌==◌, nat_le, nat_lt}
 use Rattle.ground.specs.Choices.{all_of}
+use Rattle.memory.specs.declared.Area as D
+use Rattle.memory.specs.declared.Areas as DS
 use Rattle.memory.specs.declared.Map.{Map}
 use Rattle.memory.specs.declared.Place.{Place}
-use Rattle.memory.specs.declared.Place.TheVariants.{Flash, Ram, Nowhere}
+use Rattle.memory.specs.declared.Place.TheVariants.{Flash, Ram}
 
 -- "0 to 65,536 bytes each": the most bytes of an area
 abbrev pub area_limit : ℕ
@@ -26,9 +28,16 @@ pub record Areas : Type 0 where
   pub flash : Area
   pub ram : Area
 
+-- what the code's structs hold
+abbrev pub area_of : D.Area → Area
+area_of r = record { start = r.start.0; bytes = r.bytes.now; rights = r.rights.now }
+
+abbrev pub areas_of : DS.Areas → Areas
+areas_of m = record { flash = area_of m.flash; ram = area_of m.ram }
+
 -- what is lent: where the areas start, flash, its rights, RAM, its rights
-abbrev pub areas_of : Map → List ℕ → List ℕ → List ℕ → List ℕ → Areas
-areas_of m flash flash_rights ram ram_rights =
+abbrev pub areas_from : Map → List ℕ → List ℕ → List ℕ → List ℕ → Areas
+areas_from m flash flash_rights ram ram_rights =
     record {
       flash = record { start = m.flash.0; bytes = flash; rights = flash_rights };
       ram = record { start = m.ram.0; bytes = ram; rights = ram_rights };
@@ -65,7 +74,7 @@ are_areas_accepted m =
     ∷ []
     )
 
--- what `areas_accepted` promises
+-- what `Areas::accepted` promises
 abbrev pub AreasAcceptedPromise : Areas → Bool → Type 0
 AreasAcceptedPromise m r = r ≡ are_areas_accepted m
 
@@ -73,12 +82,16 @@ AreasAcceptedPromise m r = r ≡ are_areas_accepted m
 unfoldable pub covers : ℕ → ℕ → ℕ → Bool
 covers start n a = if nat_lt a start then false else nat_lt (a - start) n
 
--- where address a lies: flash is fn bytes from f on, RAM rn bytes from r on
-unfoldable pub place_of : ℕ → ℕ → ℕ → ℕ → ℕ → Place
-place_of f fn r rn a =
-    if covers f fn a then Flash (a - f)
-    else if covers r rn a then Ram (a - r)
-    else Nowhere
+-- how many bytes into such an area address a lies
+unfoldable pub offset_in : ℕ → ℕ → ℕ → Option ℕ
+offset_in start n a = if covers start n a then Some (a - start) else None
 
-abbrev pub place_in : Areas → ℕ → Place
+-- where address a lies: flash is fn bytes from f on, RAM rn bytes from r on
+unfoldable pub place_of : ℕ → ℕ → ℕ → ℕ → ℕ → Option Place
+place_of f fn r rn a =
+    if covers f fn a then Some (Flash (a - f))
+    else if covers r rn a then Some (Ram (a - r))
+    else None
+
+abbrev pub place_in : Areas → ℕ → Option Place
 place_in m a = place_of m.flash.start (length m.flash.bytes) m.ram.start (length m.ram.bytes) a

@@ -3,9 +3,9 @@
 
 ghost use Rattle.std.specs.Prelude.{◌≡◌, ◌^◌, ◌<◌, ◌≤◌, length, nat_le};
 ghost use Rattle.memory.specs.Addresses.{PlusPromise, MovedPromise};
-ghost use Rattle.memory.specs.Areas.{areas_of, end_of, is_area_accepted, share_none, AreasAcceptedPromise, covers, place_of};
-ghost use Rattle.memory.specs.Bytes.{judged, look_of, BytePromise};
-ghost use Rattle.memory.specs.Elements.{reading_of, ElementPromise};
+ghost use Rattle.memory.specs.Areas.{area_of, areas_from, areas_of, end_of, is_area_accepted, share_none, AreasAcceptedPromise, offset_in, place_in};
+ghost use Rattle.memory.specs.Bytes.{judged, BytePromise};
+ghost use Rattle.memory.specs.Elements.{ElementPromise};
 ghost use Rattle.memory.specs.Windows.{PlacePromise, WindowPromise};
 
 use ground::Size;
@@ -16,7 +16,7 @@ pub const AREA_LIMIT: usize = 65536;
 pub const PAGE_BYTES: usize = 4096;
 
 // An address, so that it is mixed with no lane number and no offset. Its arithmetic is modulo 2^64.
-#[derive(Clone, Copy)]
+#[derive(Clone, Copy, Debug, PartialEq, Eq)]
 pub struct Address(pub u64);
 
 impl Address {
@@ -24,19 +24,14 @@ impl Address {
     pub fn plus(self, n: u64) -> Address
         ensures { PlusPromise self.0 n result }
     {
-        Address(std::num::wrapping_add_u64(self.0, n))
+        Address(self.0.wrapping_add(n))
     }
 
-    // The address d bytes on, or back. The smallest i64 has no negative, so one byte is stepped by itself.
+    // The address d bytes on, or back.
     pub fn moved(self, d: i64) -> Address
         ensures { MovedPromise self.0 d result }
     {
-        if d < 0 {
-            let less = (-(d + 1)) as u64;
-            Address(std::num::wrapping_sub_u64(std::num::wrapping_sub_u64(self.0, less), 1))
-        } else {
-            Address(std::num::wrapping_add_u64(self.0, d as u64))
-        }
+        Address(self.0.wrapping_add_signed(d))
     }
 }
 
@@ -48,231 +43,155 @@ pub struct Map {
 }
 
 // Where an address lies: so many bytes into which area.
-#[derive(Clone, Copy)]
+#[derive(Clone, Copy, Debug, PartialEq, Eq)]
 pub enum Place {
     Flash(usize),
     Ram(usize),
-    Nowhere,
 }
 
 // Why a byte cannot be read: neither area holds it, or its page has no read right.
-#[derive(Clone, Copy)]
+#[derive(Clone, Copy, Debug, PartialEq, Eq)]
 pub enum Fault {
     Nowhere,
     Denied,
 }
 
-// What a load finds at an address.
+// A byte that cannot be read: why, and its address.
+#[derive(Clone, Copy, Debug, PartialEq, Eq)]
+pub struct BadByte {
+    pub fault: Fault,
+    pub at: Address,
+}
+
+// Where an area starts, its bytes, and a rights byte for each page begun.
 #[derive(Clone, Copy)]
-pub enum Cell {
-    Byte(u8),
-    Bad(Fault),
+pub struct Area<'a> {
+    pub start: Address,
+    pub bytes: &'a [u8],
+    pub rights: &'a [u8],
 }
 
-// What reading an element finds: its value, lowest byte first, or the first bad byte: why, and its address.
-#[derive(Clone, Copy)]
-pub enum Reading {
-    Value(u64),
-    Bad(Fault, Address),
-}
+impl<'a> Area<'a> {
+    // The first address beyond the area. It can be 2^64, which is none.
+    fn end(self) -> u128
+        ensures { let r = area_of self.entry in result ≡ end_of r.start (length r.bytes) }
+    {
+        u128::from(self.start.0) + self.bytes.len() as u128
+    }
 
-// Whether n bytes from start on end at 2^64 or below. No slice is as long as the address space.
-fn ends(start: Address, n: usize) -> bool
-    ensures { result ≡ nat_le (end_of start.0 n) (2 ^ 64) }
-{
-    let first = start.0;
-    if first == 0 {
-        return true;
+    // Whether the area is accepted by itself: its limit, rights, start and end.
+    #[tactic(auto, unfolding(crate::specs::Areas::is_area_accepted))]
+    fn accepted(self) -> bool
+        ensures { let r = area_of self.entry in result ≡ is_area_accepted r.start (length r.bytes) (length r.rights) }
+    {
+        self.bytes.len() <= AREA_LIMIT
+            && self.rights.len() == self.bytes.len().div_ceil(PAGE_BYTES)
+            && self.start.0 % PAGE_BYTES as u64 == 0
+            && self.end() <= 1 << 64
     }
-    n as u64 <= 18446744073709551615 - first + 1
-}
 
-// Whether one area is accepted by itself: its limit, rights, start and end. Within the limit the pages begun are counted in a sum that
-// does not wrap.
-fn area_accepted(start: Address, n: usize, rights: usize) -> bool
-    ensures { result ≡ is_area_accepted start.0 n rights }
-{
-    if AREA_LIMIT < n {
-        return false;
-    }
-    if rights != (n + PAGE_BYTES - 1) / PAGE_BYTES {
-        return false;
-    }
-    if start.0 % (PAGE_BYTES as u64) != 0 {
-        return false;
-    }
-    ends(start, n)
-}
-
-// Whether n bytes from start on end at another start or below it.
-fn before(start: Address, n: usize, other: Address) -> bool
-    ensures { result ≡ nat_le (end_of start.0 n) other.0 }
-{
-    let first = start.0;
-    let next = other.0;
-    if next < first {
-        return false;
-    }
-    n as u64 <= next - first
-}
-
-// Whether flash, of nf bytes, and RAM, of nr bytes, share no address.
-fn share_none(map: Map, nf: usize, nr: usize) -> bool
-    ensures { result ≡ share_none map.flash.0 nf map.ram.0 nr }
-{
-    let flash = map.flash;
-    let ram = map.ram;
-    if before(flash, nf, ram) {
-        return true;
-    }
-    before(ram, nr, flash) | (nf == 0) | (nr == 0)
-}
-
-// Whether the areas are accepted.
-pub fn areas_accepted(
-    map: Map,
-    flash: &[u8],
-    flash_rights: &[u8],
-    ram: &[u8],
-    ram_rights: &[u8],
-) -> bool
-    ensures { AreasAcceptedPromise (areas_of map flash.now flash_rights.now ram.now ram_rights.now) result }
-{
-    if area_accepted(map.flash, flash.len(), flash_rights.len()) {
-        if area_accepted(map.ram, ram.len(), ram_rights.len()) {
-            return share_none(map, flash.len(), ram.len());
+    // How many bytes into the area an address lies, where the area holds it.
+    #[tactic(auto, unfolding(crate::specs::Areas::offset_in, crate::specs::Areas::covers))]
+    fn offset(self, a: Address) -> Option<usize>
+        ensures { let r = area_of self.entry in result ≡ offset_in r.start (length r.bytes) a.0 }
+    {
+        let offset = a.0.checked_sub(self.start.0)?;
+        if offset < self.bytes.len() as u64 {
+            Some(offset as usize)
+        } else {
+            None
         }
     }
-    false
-}
 
-// Whether an area of n bytes from start on holds an address.
-fn has(start: Address, n: usize, a: Address) -> bool
-    ensures { result ≡ covers start.0 n a.0 }
-{
-    let first = start.0;
-    let here = a.0;
-    if here < first {
-        return false;
-    }
-    here - first < n as u64
-}
-
-// Where an address lies, flash of nf bytes before RAM of nr bytes.
-fn locate(map: Map, nf: usize, nr: usize, a: Address) -> Place
-    ensures { result ≡ place_of map.flash.0 nf map.ram.0 nr a.0 }
-{
-    let flash = map.flash;
-    let ram = map.ram;
-    if has(flash, nf, a) {
-        return Place::Flash((a.0 - flash.0) as usize);
-    }
-    if has(ram, nr, a) {
-        return Place::Ram((a.0 - ram.0) as usize);
-    }
-    Place::Nowhere
-}
-
-// What a load finds at byte k of an area: the byte, or that its page has no read right. Where no rights byte is lent for the page, there is none.
-fn judge(bytes: &[u8], rights: &[u8], k: usize) -> Cell
-    requires { k < length bytes.now }
-    ensures { result ≡ judged bytes.now rights.now k }
-{
-    let page = k / PAGE_BYTES;
-    if page < rights.len() {
-        if rights[page] % 2 == 1 {
-            return Cell::Byte(bytes[k]);
+    // What a load finds at byte k: the byte, or that its page has no read right. Where no rights byte is lent for the page, there is none.
+    #[tactic(auto, unfolding(crate::specs::Bytes::judged))]
+    fn judge(self, k: usize) -> Result<u8, Fault>
+        requires { k < length self.bytes.now }
+        ensures { let r = area_of self.entry in result ≡ judged r.bytes r.rights k }
+    {
+        match self.rights.get(k / PAGE_BYTES) {
+            Some(right) if *right % 2 == 1 => Ok(self.bytes[k]),
+            _ => Err(Fault::Denied),
         }
     }
-    Cell::Bad(Fault::Denied)
 }
 
-// What a load finds at an address.
-pub fn byte(
-    map: Map,
-    flash: &[u8],
-    flash_rights: &[u8],
-    ram: &[u8],
-    ram_rights: &[u8],
-    a: Address,
-) -> Cell
-    ensures { BytePromise (areas_of map flash.now flash_rights.now ram.now ram_rights.now) a.0 result }
-{
-    match locate(map, flash.len(), ram.len(), a) {
-        Place::Flash(k) => judge(flash, flash_rights, k),
-        Place::Ram(k) => judge(ram, ram_rights, k),
-        Place::Nowhere => Cell::Bad(Fault::Nowhere),
+// The two areas, as they are lent for one step. Flash is looked at before RAM.
+#[derive(Clone, Copy)]
+pub struct Areas<'a> {
+    pub flash: Area<'a>,
+    pub ram: Area<'a>,
+}
+
+impl<'a> Areas<'a> {
+    // Whether flash and RAM share no address.
+    #[tactic(auto, unfolding(crate::specs::Areas::share_none))]
+    fn share_none(self) -> bool
+        ensures { let m = areas_of self.entry in result ≡ share_none m.flash.start (length m.flash.bytes) m.ram.start (length m.ram.bytes) }
+    {
+        self.flash.end() <= u128::from(self.ram.start.0)
+            || self.ram.end() <= u128::from(self.flash.start.0)
+            || self.flash.bytes.is_empty()
+            || self.ram.bytes.is_empty()
     }
-}
 
-// Reads n bytes upward from an address.
-fn bytes_from(
-    map: Map,
-    flash: &[u8],
-    flash_rights: &[u8],
-    ram: &[u8],
-    ram_rights: &[u8],
-    a: Address,
-    n: u64,
-) -> Reading
-    requires { n ≤ 8 }
-    ensures { result
-        ≡ reading_of (look_of (areas_of map flash.now flash_rights.now ram.now ram_rights.now)) a.0 n }
-{
-    let mut here = a;
-    let mut value: u64 = 0;
-    let mut i: u64 = 0;
-    while i < n {
-        match byte(map, flash, flash_rights, ram, ram_rights, here) {
-            Cell::Bad(f) => return Reading::Bad(f, here),
-            Cell::Byte(b) => {
-                value += (b as u64) << (8 * i);
+    // Whether the areas are accepted.
+    #[tactic(auto, unfolding(crate::specs::Areas::are_areas_accepted))]
+    pub fn accepted(self) -> bool
+        ensures { AreasAcceptedPromise (areas_of self.entry) result }
+    {
+        self.flash.accepted() && self.ram.accepted() && self.share_none()
+    }
+
+    // Where an address lies.
+    #[tactic(auto, unfolding(crate::specs::Areas::place_of, crate::specs::Areas::offset_in))]
+    fn locate(self, a: Address) -> Option<Place>
+        ensures { result ≡ place_in (areas_of self.entry) a.0 }
+    {
+        if let Some(k) = self.flash.offset(a) {
+            return Some(Place::Flash(k));
+        }
+        self.ram.offset(a).map(Place::Ram)
+    }
+
+    // What a load finds at an address.
+    #[tactic(auto, unfolding(crate::specs::Bytes::look_of))]
+    pub fn byte(self, a: Address) -> Result<u8, Fault>
+        ensures { BytePromise (areas_of self.entry) a.0 result }
+    {
+        match self.locate(a) {
+            Some(Place::Flash(k)) => self.flash.judge(k),
+            Some(Place::Ram(k)) => self.ram.judge(k),
+            None => Err(Fault::Nowhere),
+        }
+    }
+
+    // What reading an element finds, byte by byte upward, with wrap: its value, lowest byte first, or the first bad byte.
+    pub fn element(self, a: Address, size: Size) -> Result<u64, BadByte>
+        ensures { ElementPromise (areas_of self.entry) a.0 size result }
+    {
+        let mut value = 0;
+        for i in 0..size.bytes() {
+            let at = a.plus(i);
+            match self.byte(at) {
+                Ok(byte) => value += u64::from(byte) << (8 * i),
+                Err(fault) => return Err(BadByte { fault, at }),
             }
         }
-        here = here.plus(1);
-        i += 1;
+        Ok(value)
     }
-    Reading::Value(value)
-}
 
-// What reading an element finds: byte by byte upward, with wrap.
-pub fn element(
-    map: Map,
-    flash: &[u8],
-    flash_rights: &[u8],
-    ram: &[u8],
-    ram_rights: &[u8],
-    a: Address,
-    size: Size,
-) -> Reading
-    ensures { ElementPromise (areas_of map flash.now flash_rights.now ram.now ram_rights.now)
-        a.0 size result }
-{
-    bytes_from(map, flash, flash_rights, ram, ram_rights, a, size.bytes())
-}
-
-// The same slice, at the shorter lifetime of another. Proved by hand: the borrow checker shortens no slice reference.
-fn shorter<'f, 'r: 'f>(s: &'r [u8], like: &'f [u8]) -> &'f [u8]
-    ensures { result ≡ s.entry }
-{
-    s
-}
-
-// The place that the address window shows: nowhere where the areas are not accepted. The window hands out bytes; this says where they lie.
-pub fn shown_place(
-    map: Map,
-    flash: &[u8],
-    flash_rights: &[u8],
-    ram: &[u8],
-    ram_rights: &[u8],
-    a: Address,
-) -> Place
-    ensures { PlacePromise (areas_of map flash.now flash_rights.now ram.now ram_rights.now) a.0 result }
-{
-    if areas_accepted(map, flash, flash_rights, ram, ram_rights) {
-        return locate(map, flash.len(), ram.len(), a);
+    // The place that the address window shows: nowhere where the areas are not accepted. The window hands out bytes; this says where they lie.
+    #[tactic(auto, unfolding(crate::specs::Windows::shown_place))]
+    pub fn shown_place(self, a: Address) -> Option<Place>
+        ensures { PlacePromise (areas_of self.entry) a.0 result }
+    {
+        if self.accepted() {
+            self.locate(a)
+        } else {
+            None
+        }
     }
-    Place::Nowhere
 }
 
 // The address window: the stretch from a byte to its area's end, rights ignored.
@@ -284,13 +203,25 @@ pub fn window<'f, 'r: 'f>(
     ram_rights: &[u8],
     a: Address,
 ) -> &'f [u8]
-    ensures { WindowPromise (areas_of map flash.now flash_rights.now ram.now ram_rights.now)
+    ensures { WindowPromise (areas_from map flash.now flash_rights.now ram.now ram_rights.now)
         a.0 flash.entry ram.entry result }
 {
-    match shown_place(map, flash, flash_rights, ram, ram_rights, a) {
-        Place::Flash(k) => &flash[k..],
-        Place::Ram(k) => shorter(&ram[k..], flash),
-        Place::Nowhere => &flash[0..0],
+    let areas = Areas {
+        flash: Area {
+            start: map.flash,
+            bytes: flash,
+            rights: flash_rights,
+        },
+        ram: Area {
+            start: map.ram,
+            bytes: ram,
+            rights: ram_rights,
+        },
+    };
+    match areas.shown_place(a) {
+        Some(Place::Flash(k)) => &flash[k..],
+        Some(Place::Ram(k)) => &ram[k..],
+        None => &flash[0..0],
     }
 }
 
@@ -304,7 +235,7 @@ pub fn window_beside<'a>(
     ram_rights: &[u8],
     a: Address,
 ) -> &'a [u8]
-    ensures { WindowPromise (areas_of map flash.now flash_rights.now ram.now ram_rights.now)
+    ensures { WindowPromise (areas_from map flash.now flash_rights.now ram.now ram_rights.now)
         a.0 flash.entry ram.entry result }
 {
     window(map, flash, flash_rights, ram, ram_rights, a)
