@@ -1,6 +1,6 @@
 -- Two accepted set-ups that agree as demand 3 says: the same answer, count, element and address; and with equal bytes of the active
 -- elements, the same registers afterwards.
-use Rattle.std.specs.Prelude.{if◌then◌else◌}
+use Rattle.std.specs.Prelude.{if◌then◌else◌, Ok, Err}
 use mathlib.Core.Path.{◌≡◌, refl, sym, ap, subst, ◌∙◌}
 use mathlib.Core.Bool.{Bool, true, false}
 use mathlib.Core.List.{List, []}
@@ -25,14 +25,12 @@ use Rattle.steps.specs.Answers.{Report, refusal_report}
 use Rattle.steps.specs.Plans.{plan_of}
 use Rattle.steps.specs.Lanes.{governing_bytes, wanted, destinations_in, element_at}
 use Rattle.steps.specs.Outcomes.{Outcome, answers_in, answers_of, survey_of, vectors_after, scalars_after, bench_after, outcome_of}
-use Rattle.steps.specs.Step.{Prepared, Stop, Go, planned_by, planned_of, at_stack, prepared_of, carried_out, step_of}
+use Rattle.steps.specs.Step.{Planned, Prepared, Stop, Go, planned_by, planned_of, at_stack, prepared_of, carried_out, step_of}
 use Rattle.steps.specs.Said.{Accepted}
 use Rattle.steps.specs.Demand1.{Ready}
 use Rattle.steps.specs.Demand3.{Same, SameRights, SameBytes}
 use Rattle.steps.specs.declared.Settings.{Settings}
 use Rattle.steps.specs.declared.Plan.{Plan}
-use Rattle.steps.specs.declared.Planned.{Planned}
-use Rattle.steps.specs.declared.Planned.TheVariants as P
 use Rattle.steps.proofs.Accepts.{accepted_exactly}
 use Rattle.steps.proofs.Faults.{below_all}
 use Rattle.steps.proofs.Plans.{plan_in_range}
@@ -57,8 +55,8 @@ module _ (l : Lent) (b : Bench) (l' : Lent) (b' : Bench) (accepted : Accepted l 
 
   same_stacked : (q : Planned) → at_stack l b.scalars q ≡ at_stack l' b'.scalars q
   unfolding governing_bytes
-  same_stacked (P.Stop a) = refl
-  same_stacked (P.Go p) = λ j. at_stack (seen (same.settings j) (same.predicates j)) (same.scalars j) (P.Go p)
+  same_stacked (Err a) = refl
+  same_stacked (Ok p) = λ j. at_stack (seen (same.settings j) (same.predicates j)) (same.scalars j) (Ok p)
 
   same_prepared : (w : ℕ) → prepared_of l b.scalars w ≡ prepared_of l' b'.scalars w
   unfolding prepared_of

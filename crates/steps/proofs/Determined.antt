@@ -1,6 +1,8 @@
 -- Demand 2's own words leave nothing open: two benches of which `Leaves` holds are the same to the last byte and number. So it is
 -- document 01's statement, and not only the definition, that determines what a load that ran leaves.
-use mathlib.Core.Path.{◌≡◌, refl, ap}
+use Rattle.std.specs.Prelude.{Option, Some, None}
+use Rattle.std.proofs.lemmas.Option.{none-some}
+use mathlib.Core.Path.{◌≡◌, refl, sym, ap, ◌∙◌}
 use mathlib.Core.Bool.{Bool, true, false}
 use mathlib.Core.Logic.{⊎_elim}
 use Prim.Native.Nat.{ℕ, ◌+◌, ◌-◌, ◌*◌, ◌/◌, ◌%◌, ◌^◌, ◌<◌}
@@ -124,19 +126,20 @@ module _ (l : Lent) (w : ℕ) (b : Bench) (i : Insn) (ready : Ready l w b i) (al
 
     -- a scalar is PC, the base where it is written back, or another
     same_other : (k : ℕ) → (k ≡ 32 → ⊥) → scalar b₁.scalars k ≡ scalar b₂.scalars k
-    same_other k pc =
-        ⊎_elim
-        (λ t.
-        let d = back_adds l.settings.vl b.scalars i i.shape t in
-        let v : Back (wrap (scalar b.scalars i.base + d.0)) = record { added = d.0; adds = d.1; sum = refl } in
-        ⊎_elim
-        (λ u. let e = eqb-true k i.base u in rw e (only_one (p.base _ v) (q.base _ v)))
-        (λ u. let ne = eqb-false k i.base u in only_one (p.others k pc (λ a h e. ne e)) (q.others k pc (λ a h e. ne e)))
-        (true_or_false (eqb k i.base)))
-        (λ t.
-        let kept : (v : ℕ) → Back v → k ≡ i.base → ⊥ = λ v h e. never (adds_back l.settings.vl b.scalars i i.shape h.added h.adds).0 t in
-        only_one (p.others k pc kept) (q.others k pc kept))
-        (true_or_false plan.back)
+    same_other k pc = go plan.back refl
+      where
+        go : (back : Option ℕ) → plan.back ≡ back → scalar b₁.scalars k ≡ scalar b₂.scalars k
+        go None t =
+            let kept : (v : ℕ) → Back v → k ≡ i.base → ⊥ =
+            λ v h e. none-some h.added (sym t ∙ adds_back l.settings.vl b.scalars i i.shape h.added h.adds) in
+            only_one (p.others k pc kept) (q.others k pc kept)
+        go (Some a) t =
+            let v : Back (wrap (scalar b.scalars i.base + a)) =
+            record { added = a; adds = back_adds l.settings.vl b.scalars i i.shape a t; sum = refl } in
+            ⊎_elim
+            (λ u. let e = eqb-true k i.base u in rw e (only_one (p.base _ v) (q.base _ v)))
+            (λ u. let ne = eqb-false k i.base u in only_one (p.others k pc (λ a h e. ne e)) (q.others k pc (λ a h e. ne e)))
+            (true_or_false (eqb k i.base))
 
     same_scalar : (k : ℕ) → scalar b₁.scalars k ≡ scalar b₂.scalars k
     same_scalar k =

@@ -1,6 +1,7 @@
 -- What keeps a plan's elements few, how many destinations it has, and that its write-back is the scope's.
-use mathlib.Core.Path.{◌≡◌, refl, sym}
-use mathlib.Core.Bool.{true}
+use Rattle.std.specs.Prelude.{Some}
+use Rattle.std.proofs.lemmas.Option.{none-some, same_Some}
+use mathlib.Core.Path.{◌≡◌, refl, sym, ap, subst, ◌∙◌}
 use mathlib.Core.List.{List}
 use mathlib.Core.Logic.{⊎_elim}
 use native.Mathlib.Nat.{div-le_self, div-div-eq-div-mul}
@@ -8,7 +9,7 @@ use Prim.Native.Nat.{ℕ, ◌*◌, ◌/◌, ◌≤◌}
 use native.Mathlib.Omega.{arith}
 use lib.Dec.{eqb}
 use borrow.Author.Tests.{eq-eqb, ne_eqb, eqb-true, eqb-false}
-use Rattle.ground.proofs.Laws.{never, true_or_false, if_cases}
+use Rattle.ground.proofs.Laws.{true_or_false, if_cases}
 use Rattle.ground.specs.Sizes.{bytes_of}
 use Rattle.ground.specs.declared.Size.{Size}
 use Rattle.words.specs.Ranges.{ShapeInRange}
@@ -44,15 +45,21 @@ module _ (vl : ℕ) (x : List ℕ) (i : Insn) where
   destinations_all (Block wide o) r = sym r.3
 
   -- the write-back is the scope's
-  pub adds_back : (s : Shape) (a : ℕ) → AddsAs x i s a → ((spread_of vl x i s).back ≡ true) × ((spread_of vl x i s).amount ≡ a)
+  pub adds_back : (s : Shape) (a : ℕ) → AddsAs x i s a → (spread_of vl x i s).back ≡ Some a
   unfolding spread_of
-  adds_back s a (S.size {r = r} h) = (refl, rw (eq-eqb r 31 h) (offs_sum i i.registers))
-  adds_back s a (S.register {r = r} h) = (refl, rw (ne_eqb r 31 h))
+  adds_back s a (S.size {r = r} h) = rw (eq-eqb r 31 h) (ap Some (offs_sum i i.registers))
+  adds_back s a (S.register {r = r} h) = rw (ne_eqb r 31 h) refl
 
-  pub back_adds : (s : Shape) → (spread_of vl x i s).back ≡ true → (a : ℕ) × AddsAs x i s a
+  pub back_adds : (s : Shape) (a : ℕ) → (spread_of vl x i s).back ≡ Some a → AddsAs x i s a
   unfolding spread_of
-  back_adds (Replicate q Keep) h = never h refl
-  back_adds (Replicate q (Post r)) h = ⊎_elim (λ t. (_, S.size (eqb-true r 31 t))) (λ t. (_, S.register (eqb-false r 31 t))) (true_or_false (eqb r 31))
-  back_adds (ByElement imm6) h = never h refl
-  back_adds (Contiguous o) h = never h refl
-  back_adds (Block wide o) h = never h refl
+  back_adds (Replicate q Keep) a h = absurd (none-some a h)
+  back_adds (Replicate q (Post r)) a h =
+      let is = same_Some _ a h in
+      let Adds : ℕ → Type 0 = AddsAs x i (Replicate q (Post r)) in
+      ⊎_elim
+      (λ t. subst Adds (sym (offs_sum i i.registers) ∙ rw t at is) (S.size (eqb-true r 31 t)))
+      (λ t. subst Adds (rw t at is) (S.register (eqb-false r 31 t)))
+      (true_or_false (eqb r 31))
+  back_adds (ByElement imm6) a h = absurd (none-some a h)
+  back_adds (Contiguous o) a h = absurd (none-some a h)
+  back_adds (Block wide o) a h = absurd (none-some a h)

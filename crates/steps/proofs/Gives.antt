@@ -22,13 +22,12 @@ use Rattle.steps.specs.Terms.{scalar}
 use Rattle.steps.specs.Plans.{plan_of}
 use Rattle.steps.specs.Lanes.{governing_bytes}
 use Rattle.steps.specs.Outcomes.{Outcome, answers_of, survey_of, outcome_of}
-use Rattle.steps.specs.Step.{is_wide, switched_on, stack_fails, Prepared, Stop, Go, refusals}
+use Rattle.steps.specs.Step.{is_wide, switched_on, stack_fails, Planned, Prepared, Stop, Go, refusals}
 use Rattle.steps.specs.Step.{planned_load, planned_by, planned_of, at_stack, prepared_of, carried_out, step_of}
 use Rattle.steps.specs.Demand1 as S
 use Rattle.steps.specs.Said.{Accepted, Active, Checks, byte_at}
 use Rattle.steps.specs.Demand1.{FirstBad, Counted, Wide, On, Defined, Ready, AllReadable, element_limit, Given}
 use Rattle.steps.specs.declared.Plan.{Plan}
-use Rattle.steps.specs.declared.Planned.{Planned}
 use Rattle.steps.proofs.Fields.{elements_few}
 use Rattle.steps.proofs.Accepts.{accepted_exactly}
 use Rattle.steps.proofs.Walks.{many, walk_clear, walk_stopped, clear_or_stopped}

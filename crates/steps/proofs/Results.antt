@@ -1,4 +1,5 @@
 -- What a load that ran leaves: each lane of each destination, each scalar, and all else as it was.
+use Rattle.std.specs.Prelude.{Option, Some, None}
 use mathlib.Core.Path.{◌≡◌, refl, sym, ap, ◌∙◌}
 use mathlib.Core.Bool.{Bool, true, false}
 use mathlib.Core.List.{List}
@@ -8,11 +9,11 @@ use native.Mathlib.Nat.{zero-add, add_assoc, mod-eq_of_lt, div-one, mul-le-mul_r
 use native.Mathlib.Omega.{arith}
 use lib.Dec.{ltb, eqb}
 use lib.Arith.{digits_div, digits_mod}
-use lib.ListN.{length, get_or, set, length-set}
+use lib.ListN.{length, get_or, length-set}
 use lib.Pow.{pow_mono}
 use lib.Seq.{get_or-set_same, get_or-set_other}
 use borrow.Author.Tests.{le-leb, lt-leb, eqb-true, eqb-false, ltb-true, ltb-false}
-use Rattle.ground.proofs.Laws.{true_or_false, if_cases, length_listed, get_or_listed, length_replaced, replaced_below, replaced_in, replaced_above}
+use Rattle.ground.proofs.Laws.{true_or_false, length_listed, get_or_listed, length_replaced, replaced_below, replaced_in, replaced_above}
 use Rattle.ground.proofs.Laws.{little_digits, little_cong, pow_bytes}
 use Rattle.ground.proofs.Sizes.{register_room}
 use Rattle.ground.specs.Sizes.{bytes_of}
@@ -21,7 +22,7 @@ use Rattle.memory.specs.declared.Reading.{Reading}
 use Rattle.steps.specs.Benches.{Lent}
 use Rattle.steps.specs.Terms.{scalar}
 use Rattle.steps.specs.Lanes.{governing_bytes, destination_of}
-use Rattle.steps.specs.Outcomes.{extended, lane_value, register_byte, register_of, vectors_after, base_after, scalars_after}
+use Rattle.steps.specs.Outcomes.{extended, lane_value, register_byte, register_of, vectors_after, added_to, base_after, scalars_after}
 use Rattle.steps.specs.Demand2.{lane_in, Extends}
 use Rattle.steps.specs.declared.Plan.{Plan}
 
@@ -151,7 +152,11 @@ module _ (answer : ℕ → Reading) (l : Lent) (z : List ℕ) (p : Plan) (file :
 module _ (p : Plan) (x : List ℕ) (count : length x ≡ 33) (b : p.base < 32) where
   base_length : length (base_after p x) ≡ length x
   unfolding base_after
-  base_length = if_cases (λ (y : List ℕ). length y ≡ length x) p.back (set x p.base _) x (λ _. length-set x p.base _) (λ _. refl)
+  base_length = go p.back
+    where
+      go : (back : Option ℕ) → length (added_to p.base x back) ≡ length x
+      go None = refl
+      go (Some a) = length-set x p.base _
 
   pub scalars_length : length (scalars_after p x) ≡ length x
   unfolding scalars_after
@@ -161,12 +166,14 @@ module _ (p : Plan) (x : List ℕ) (count : length x ≡ 33) (b : p.base < 32) w
   unfolding scalars_after
   counter = get_or-set_same (base_after p x) 32 _ 0 (omega (arith, base_length))
 
-  pub written_back : p.back ≡ true → scalar (scalars_after p x) p.base ≡ plus_of (scalar x p.base) p.amount
+  pub written_back : (a : ℕ) → p.back ≡ Some a → scalar (scalars_after p x) p.base ≡ plus_of (scalar x p.base) a
   unfolding scalars_after base_after
-  written_back t = get_or-set_other (base_after p x) 32 p.base _ 0 (omega arith) ∙ rw t (get_or-set_same x p.base _ 0 (omega arith))
+  written_back a t = get_or-set_other (base_after p x) 32 p.base _ 0 (omega arith) ∙ rw t (get_or-set_same x p.base _ 0 (omega arith))
 
-  pub kept_scalar : (n : ℕ) → (n ≡ 32 → ⊥) → (p.back ≡ true → n ≡ p.base → ⊥) → scalar (scalars_after p x) n ≡ scalar x n
+  pub kept_scalar : (n : ℕ) → (n ≡ 32 → ⊥) → ((a : ℕ) → p.back ≡ Some a → n ≡ p.base → ⊥) → scalar (scalars_after p x) n ≡ scalar x n
   unfolding scalars_after base_after
-  kept_scalar n pc h =
-      get_or-set_other (base_after p x) 32 n _ 0 pc
-      ∙ if_cases (λ (y : List ℕ). get_or y n 0 ≡ get_or x n 0) p.back (set x p.base _) x (λ t. get_or-set_other x p.base n _ 0 (h t)) (λ _. refl)
+  kept_scalar n pc h = get_or-set_other (base_after p x) 32 n _ 0 pc ∙ go p.back refl
+    where
+      go : (back : Option ℕ) → p.back ≡ back → get_or (added_to p.base x back) n 0 ≡ get_or x n 0
+      go None t = refl
+      go (Some a) t = get_or-set_other x p.base n _ 0 (h a t)

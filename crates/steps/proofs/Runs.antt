@@ -2,7 +2,7 @@
 use Rattle.std.specs.Prelude.{if◌then◌else◌}
 use mathlib.Core.Path.{◌≡◌, refl, sym, ap, ◌∙◌}
 use mathlib.Core.Bool.{Bool, true, false}
-use Prim.Native.Nat.{ℕ, ◌+◌, ◌-◌, ◌%◌, ◌^◌, ◌≤◌, ◌<◌}
+use Prim.Native.Nat.{ℕ, ◌-◌, ◌%◌, ◌^◌, ◌≤◌, ◌<◌}
 use native.Mathlib.Nat.{zero-add, zero-mod}
 use native.Mathlib.Omega.{arith}
 use lib.ListN.{length, get_or}
@@ -10,7 +10,7 @@ use Rattle.ground.proofs.Laws.{off, little_cong, little_below}
 use Rattle.steps.specs.Insns.{Insn}
 use Rattle.words.specs.Ranges.{InsnInRange}
 use Rattle.words.proofs.Ranges.{means_in_range}
-use Rattle.memory.specs.Addresses.{wrap, plus_of}
+use Rattle.memory.specs.Addresses.{plus_of}
 use Rattle.memory.specs.Areas.{Areas}
 use Rattle.memory.specs.Bytes.{read_right, judged, look_of}
 use Rattle.memory.specs.Said.{AreasAccepted}
@@ -23,7 +23,6 @@ use Rattle.memory.proofs.Looks.{looked}
 use Rattle.memory.proofs.Elements.{value_exactly}
 use Rattle.steps.specs.Benches.{Lent, Bench, areas_in}
 use Rattle.steps.specs.Answers.{Report}
-use Rattle.steps.specs.Terms.{scalar}
 use Rattle.steps.specs.Plans.{plan_of}
 use Rattle.steps.specs.Lanes.{governing_bytes, asked, lane_takes, destinations_in, destination_of, element_at}
 use Rattle.steps.specs.Outcomes.{Outcome, answers_of, extended, lane_value, bench_after, outcome_of}
@@ -128,13 +127,10 @@ module _ (l : Lent) (w : ℕ) (b : Bench) (i : Insn) (ready : Ready l w b i) (al
         bytes = λ r d k h. rw (d.2, destined d.0) (small answer l b.vectors plan a.vectors (destinations_in plan) d.0 (among d.0 d.1) few k h);
         registers = λ r none. kept_others answer l b.vectors plan a.vectors (destinations_in plan) r (λ j h e. none (j, rw (← as_many) h, e ∙ sym (destined j)));
         vectors = kept_length answer l b.vectors plan a.vectors (destinations_in plan);
-        base = λ v d. let r = adds_back l.settings.vl b.scalars i i.shape d.added d.adds in
-            written_back plan b.scalars a.scalars base r.0
-            ∙ ap (λ (y : ℕ). wrap (scalar b.scalars i.base + y)) r.1
-            ∙ sym d.sum;
+        base = λ v d. written_back plan b.scalars a.scalars base d.added (adds_back l.settings.vl b.scalars i i.shape d.added d.adds) ∙ sym d.sum;
         pc = counter plan b.scalars a.scalars base;
         others = λ n pc h. kept_scalar plan b.scalars a.scalars base n pc
-            (λ t e. let r = back_adds l.settings.vl b.scalars i i.shape t in h _ (record { added = r.0; adds = r.1; sum = refl }) e);
+            (λ y t e. h _ (record { added = y; adds = back_adds l.settings.vl b.scalars i i.shape y t; sum = refl }) e);
         scalars = scalars_length plan b.scalars a.scalars base;
         ram = refl;
         lent = refl;

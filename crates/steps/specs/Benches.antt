@@ -4,6 +4,7 @@ use Rattle.ground.specs.Choices.{all_of}
 use Rattle.ground.specs.Lists.{EachBelow}
 use Rattle.memory.specs.Areas.{Areas, areas_of, are_areas_accepted}
 use Rattle.memory.specs.declared.Map.{Map}
+use Rattle.steps.specs.declared.Lent as L
 use Rattle.steps.specs.declared.Settings.{Settings}
 
 -- what no step ever changes
@@ -14,6 +15,18 @@ pub record Lent : Type 0 where
   pub flash : List ℕ
   pub flash_rights : List ℕ
   pub ram_rights : List ℕ
+
+-- .. as a caller of a step lends it
+abbrev pub lent_of : L.Lent → Lent
+lent_of lent =
+    record {
+      settings = lent.settings;
+      predicates = lent.predicates.now;
+      map = lent.map;
+      flash = lent.flash.now;
+      flash_rights = lent.flash_rights.now;
+      ram_rights = lent.ram_rights.now;
+    }
 
 -- what an instruction may change: the vector file, the scalars X0 to X30, SP, PC, and RAM, which no load changes (`ram` of Leaves)
 pub record Bench : Type 0 where

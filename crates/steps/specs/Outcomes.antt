@@ -1,5 +1,5 @@
 -- What a load leaves, from its plan and the answers to the elements it asks for. Memory is in sight in `answers_in` alone.
-use Rattle.std.specs.Prelude.{if◌then◌else◌, ℕ, zero, suc, ◌+◌, ◌-◌, ◌*◌, ◌/◌, ◌%◌, ◌^◌, Bool, ◌&&◌, List, [], ◌∷◌, leb, eqb, set}
+use Rattle.std.specs.Prelude.{if◌then◌else◌, ℕ, zero, suc, ◌+◌, ◌-◌, ◌*◌, ◌/◌, ◌%◌, ◌^◌, Bool, ◌&&◌, List, [], ◌∷◌, Option, Some, None, leb, eqb, set}
 use Rattle.ground.specs.Lists.{listed, replaced}
 use Rattle.ground.specs.Sizes.{bytes_of}
 use Rattle.memory.specs.Addresses.{plus_of}
@@ -67,9 +67,13 @@ module _ (answer : ℕ → Reading) (p : Plan) (pred : List ℕ) where
   vectors_after n z zero = z
   vectors_after n z (suc j) = replaced (vectors_after n z j) (destination_of p j * n) n (register_of j n)
 
--- the base written back
+-- the base, to which so much is added where it is written back
+abbrev pub added_to : ℕ → List ℕ → Option ℕ → List ℕ
+added_to base x None = x
+added_to base x (Some n) = set x base (plus_of (scalar x base) n)
+
 unfoldable pub base_after : Plan → List ℕ → List ℕ
-base_after p x = if p.back then set x p.base (plus_of (scalar x p.base) p.amount) else x
+base_after p x = added_to p.base x p.back
 
 -- "PC grows by 4, modulo 2^64, when the load ran"
 unfoldable pub scalars_after : Plan → List ℕ → List ℕ

@@ -1,5 +1,5 @@
 -- "How a load reads": from the instruction, the settings and the scalars. No memory is in sight.
-use Rattle.std.specs.Prelude.{if◌then◌else◌, ℕ, ◌+◌, ◌*◌, ◌/◌, Bool, true, false, List, eqb, pos, ◌*ℤ◌}
+use Rattle.std.specs.Prelude.{if◌then◌else◌, ℕ, ◌+◌, ◌*◌, ◌/◌, List, Option, Some, None, eqb, pos, ◌*ℤ◌}
 use Rattle.ground.specs.Sizes.{bytes_of}
 use Rattle.ground.specs.declared.Size.{Size}
 use Rattle.steps.specs.Insns.{Insn, Shape, Replicate, ByElement, Contiguous, Block, Offset, Imm, Reg, Back, Keep, Post}
@@ -18,30 +18,26 @@ abbrev pub start_of : List ℕ → ℕ → Size → ℕ → Offset → ℕ
 start_of x rn size block (Imm i) = moved_of (scalar x rn) (signed4 i *ℤ pos block)
 start_of x rn size block (Reg r) = wrap (scalar x rn + scalar x r * bytes_of size)
 
-abbrev pub writes_back : Back → Bool
-writes_back Keep = false
-writes_back (Post r) = true
-
--- "Post-index adds the read's size when Rm = 31, else Xm as it was before the step", and of LD2R to LD4R "the sum of the reads": so many bytes
-abbrev pub amount_of : List ℕ → ℕ → Back → ℕ
-amount_of x bytes Keep = 0
-amount_of x bytes (Post r) = if eqb r 31 then bytes else scalar x r
+-- what is added to the base where it is written back: "Post-index adds the read's size when Rm = 31, else Xm as it was before the step", and of LD2R to
+-- LD4R "the sum of the reads": so many bytes
+abbrev pub added_of : List ℕ → ℕ → Back → Option ℕ
+added_of x bytes Keep = None
+added_of x bytes (Post r) = Some (if eqb r 31 then bytes else scalar x r)
 
 -- what a load's shape decides of its plan: where element 0 lies, its elements, the lanes that take one, what decides, the lanes that the
--- stack rule consults, and what is written back
+-- stack rule consults, and what is added to the base where it is written back
 pub record Spread : Type 0 where
   pub start : ℕ
   pub elements : ℕ
   pub filled : ℕ
   pub rule : Rule
   pub consulted : ℕ
-  pub back : Bool
-  pub amount : ℕ
+  pub back : Option ℕ
 
 -- .. of an SVE load, which writes nothing back
 abbrev pub spread_with : ℕ → ℕ → ℕ → Rule → ℕ → Spread
 spread_with start elements filled rule consulted =
-    record { start = start; elements = elements; filled = filled; rule = rule; consulted = consulted; back = false; amount = 0 }
+    record { start = start; elements = elements; filled = filled; rule = rule; consulted = consulted; back = None }
 
 -- .. of LD1R to LD4R: a read for each register, over 64 bits (Q=0) or 128; the rest of the register becomes zero
 abbrev pub replicated : List ℕ → Insn → ℕ → Back → Spread
@@ -52,8 +48,7 @@ replicated x i q back =
       filled = (if eqb q 1 then 16 else 8) / bytes_of i.element.lane;
       rule = Always;
       consulted = 0;
-      back = writes_back back;
-      amount = amount_of x (i.registers * bytes_of i.element.memory) back;
+      back = added_of x (i.registers * bytes_of i.element.memory) back;
     }
 
 -- Element e lies at start + e × size; each of the first `filled` lanes of a destination takes one (`lane_element` of Lanes).
@@ -87,7 +82,6 @@ plan_with i s =
       base = i.base;
       target = i.target;
       back = s.back;
-      amount = s.amount;
     }
 
 abbrev pub plan_of : ℕ → List ℕ → Insn → Plan

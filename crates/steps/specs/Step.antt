@@ -1,5 +1,5 @@
 -- One step, whole.
-use Rattle.std.specs.Prelude.{if◌then◌else◌, ℕ, ◌%◌, ◌≡◌, Bool, false, not, ◌&&◌, List, [], ◌∷◌, ltb, eqb}
+use Rattle.std.specs.Prelude.{if◌then◌else◌, ℕ, ◌%◌, ◌≡◌, Bool, false, not, ◌&&◌, List, [], ◌∷◌, Result, Ok, Err, ltb, eqb}
 use Rattle.ground.specs.Choices.{Row, ◌⇒◌, first_of}
 use Rattle.words.specs.Families.{read_of}
 use Rattle.steps.specs.Insns.{Insn, Shape, Replicate, ByElement, Contiguous, Block, Decoded, Outside, Undefined, Is}
@@ -12,8 +12,7 @@ use Rattle.steps.specs.Outcomes.{Outcome, answers_of, ended, outcome_of}
 use Rattle.steps.specs.declared.Settings.{Settings}
 use Rattle.steps.specs.declared.StepResult.{StepResult}
 use Rattle.steps.specs.declared.Plan.{Plan}
-use Rattle.steps.specs.declared.Planned.{Planned}
-use Rattle.steps.specs.declared.Planned.TheVariants as P
+use Rattle.steps.specs.declared.Answer.{Answer}
 use Rattle.steps.specs.declared.Answer.TheVariants as A
 
 -- LD1RO
@@ -34,20 +33,24 @@ switched_on s (Block wide offset) = s.sve
 unfoldable pub stack_fails : List ℕ → Plan → List ℕ → Bool
 stack_fails x p pred = eqb p.base 31 && checks_stack p pred && not (eqb (scalar x 31 % 16) 0)
 
+-- what a word is about to do: the plan to carry out, or the answer that stops it
+abbrev pub Planned : Type 0
+Planned = Result Plan Answer
+
 -- "3 from the word and F64MM, 4, 3 for short VL": each with its answer
 unfoldable pub refusals : Settings → Insn → List (Row Planned)
 refusals s i =
-    (is_wide i.shape && not s.f64mm ⇒ P.Stop A.Undefined)
-    ∷ (not (switched_on s i.shape) ⇒ P.Stop A.SwitchedOff)
-    ∷ (is_wide i.shape && ltb s.vl 256 ⇒ P.Stop A.Undefined)
+    (is_wide i.shape && not s.f64mm ⇒ Err A.Undefined)
+    ∷ (not (switched_on s i.shape) ⇒ Err A.SwitchedOff)
+    ∷ (is_wide i.shape && ltb s.vl 256 ⇒ Err A.Undefined)
     ∷ []
 
 unfoldable pub planned_load : Settings → List ℕ → Insn → Planned
-planned_load s x i = first_of (refusals s i) (P.Go (plan_of s.vl x i))
+planned_load s x i = first_of (refusals s i) (Ok (plan_of s.vl x i))
 
 abbrev pub planned_by : Settings → List ℕ → Decoded → Planned
-planned_by s x Outside = P.Stop A.Outside
-planned_by s x Undefined = P.Stop A.Undefined
+planned_by s x Outside = Err A.Outside
+planned_by s x Undefined = Err A.Undefined
 planned_by s x (Is i) = planned_load s x i
 
 -- what a word is about to do: no predicate and no memory is in sight
@@ -61,8 +64,8 @@ pub data Prepared : Type 0 where
 
 -- what was planned, at the stack rule: 5 comes after all that the word, the settings and the scalars decide, since the lanes decide it
 abbrev pub at_stack : Lent → List ℕ → Planned → Prepared
-at_stack l x (P.Stop a) = Stop (report_of (record { count = 0; answer = a }))
-at_stack l x (P.Go p) = if stack_fails x p (governing_bytes l p) then Stop (refusal_report 5) else Go p
+at_stack l x (Err a) = Stop (report_of (record { count = 0; answer = a }))
+at_stack l x (Ok p) = if stack_fails x p (governing_bytes l p) then Stop (refusal_report 5) else Go p
 
 unfoldable pub prepared_of : Lent → List ℕ → ℕ → Prepared
 prepared_of l x w = at_stack l x (planned_of l.settings x w)

@@ -6,7 +6,7 @@ ghost use Rattle.steps.specs.Benches.{AllowedPromise};
 ghost use Rattle.steps.specs.Answers.{fault_number, AnswerNumberPromise, AnswerElementPromise, AnswerAddressPromise};
 
 use ground::Size;
-use memory::{Address, Fault};
+use memory::{Address, Fault, Map};
 use words::Governing;
 
 // The vector length in bits, and the switches.
@@ -22,7 +22,7 @@ pub struct Settings {
 pub fn allowed(vl: u64) -> bool
     ensures { AllowedPromise vl result }
 {
-    (vl % 128 == 0) & (128 <= vl) & (vl <= 2048)
+    vl % 128 == 0 && (128..=2048).contains(&vl)
 }
 
 // How a step ended. A fault carries why, the first bad byte's address and its element's number.
@@ -75,13 +75,8 @@ impl Answer {
         ensures { AnswerElementPromise self result }
     {
         match self {
-            Answer::Ran => 0,
-            Answer::SetUp => 0,
-            Answer::Outside => 0,
-            Answer::Undefined => 0,
-            Answer::SwitchedOff => 0,
-            Answer::Stack => 0,
             Answer::Faulted(_, _, e) => e,
+            _ => 0,
         }
     }
 
@@ -90,13 +85,8 @@ impl Answer {
         ensures { AnswerAddressPromise self result }
     {
         match self {
-            Answer::Ran => Address(0),
-            Answer::SetUp => Address(0),
-            Answer::Outside => Address(0),
-            Answer::Undefined => Address(0),
-            Answer::SwitchedOff => Address(0),
-            Answer::Stack => Address(0),
             Answer::Faulted(_, a, _) => a,
+            _ => Address(0),
         }
     }
 }
@@ -115,7 +105,7 @@ pub enum Rule {
 // What a load is about to do, with no memory in sight. Element e is read at start + e × size. The destinations are registers from `target` on, 31
 // followed by 0: one for each element where the rule is `Always`, and else one. In each, each of the first `filled` lanes takes its element where
 // the rule says so, and every other lane becomes zero. The stack rule checks SP where one of the first `consulted` lanes is
-// active; where the rule is `Always`, it checks in any case. The base is written back where `back` says so, and `amount` is added to it.
+// active; where the rule is `Always`, it checks in any case. `back` is what is added to the base, where it is written back.
 #[derive(Clone, Copy)]
 pub struct Plan {
     pub start: Address,
@@ -129,13 +119,17 @@ pub struct Plan {
     pub governing: Governing,
     pub base: u32,
     pub target: u32,
-    pub back: bool,
-    pub amount: u64,
+    pub back: Option<u64>,
 }
 
-// What a word is about to do: the answer that stops it, or the plan to carry out.
+// What a caller lends and no step ever changes: the settings, the predicate file, where the areas start, flash, and the rights of both areas.
+// RAM is not here: a step of another kind may write it.
 #[derive(Clone, Copy)]
-pub enum Planned {
-    Stop(Answer),
-    Go(Plan),
+pub struct Lent<'a> {
+    pub settings: Settings,
+    pub predicates: &'a [u8],
+    pub map: Map,
+    pub flash: &'a [u8],
+    pub flash_rights: &'a [u8],
+    pub ram_rights: &'a [u8],
 }
