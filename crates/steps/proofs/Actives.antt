@@ -5,25 +5,25 @@ use mathlib.Core.Path.{◌≡◌, refl, sym, ap, ◌∙◌}
 use mathlib.Core.Bool.{Bool, true, false}
 use mathlib.Core.List.{List}
 use mathlib.Core.Logic.{◌↔◌}
-use Prim.Native.Nat.{ℕ, zero, suc, ◌*◌, ◌/◌, ◌%◌, ◌^◌, ◌≤◌, ◌<◌}
+use Prim.Native.Nat.{ℕ, ◌*◌, ◌/◌, ◌%◌, ◌^◌, ◌≤◌, ◌<◌}
 use native.Mathlib.Nat.{mod-lt, mod-eq_of_lt, zero-mul, zero-div, div-lt_iff_lt-mul, mul_left_comm, div-div-eq-div-mul}
 use native.Mathlib.Omega.{arith}
-use lib.Dec.{ltb, eqb, lit<}
+use lib.Dec.{ltb, lit<}
 use lib.ListN.{drop}
 use lib.Seq.{get_or-take, get_or-drop}
 use borrow.Author.Tests.{eq-eqb, eqb-true, ltb-true, lt-ltb}
 use Rattle.ground.specs.Lists.{any_below}
-use Rattle.ground.proofs.Laws.{never, if_cases, any_of, any_at, and_left, and_right, and_both}
+use Rattle.ground.proofs.Laws.{never, any_of, any_at, and_left, and_right, and_both}
 use Rattle.ground.proofs.Sizes.{bytes_some, in_lanes, register_room}
 use Rattle.ground.specs.Sizes.{bytes_of}
 use Rattle.ground.specs.declared.Size.{Size}
-use Rattle.steps.specs.Insns.{Insn, Shape, Replicate, ByElement, Contiguous, Block, Governing, None, By}
+use Rattle.steps.specs.Insns.{Insn, Shape, Replicate, ByElement, Contiguous, Block, Option, Some, None}
 use Rattle.words.specs.Ranges.{ShapeInRange}
 use Rattle.steps.specs.Benches.{Lent}
 use Rattle.steps.specs.Terms.{block_bytes}
 use Rattle.steps.specs.Plans.{spread_of, plan_with}
 use Rattle.steps.specs.Lanes.{predicate_of, governing_bytes, bit_of, is_active, wanted, lane_takes, lane_element, checks_stack}
-use Rattle.steps.specs.Said.{LengthAllowed, lane_bytes, N, K, BitSet, ActiveAs, ChecksAs}
+use Rattle.steps.specs.Said.{LengthAllowed, lane_bytes, N, Q, K, BitSet, ActiveAs, ChecksAs}
 use Rattle.steps.specs.Demand1.{WideAs}
 use Rattle.steps.specs.Demand2.{TakesAs}
 use Rattle.steps.specs.declared.Plan.{Plan}
@@ -37,20 +37,20 @@ pub block_some : (wide : Bool) (s : Size) → 0 < block_bytes wide / bytes_of s
 block_some wide s = let b = block_bytes_lem wide in (in_lanes s (block_bytes wide) b.0 0).1 (rw zero-mul b.1)
 
 -- 64 bits (Q=0) or 128
-eighth : (q : ℕ) → (if eqb q 1 then 16 else 8) % 8 ≡ 0
-eighth q = if_cases (λ (n : ℕ). n % 8 ≡ 0) (eqb q 1) 16 8 (λ _. refl) (λ _. refl)
+eighth : (q : Bool) → (if q then 16 else 8) % 8 ≡ 0
+eighth true = refl
+eighth false = refl
 
-replicated_bytes : (q : ℕ) → q < 2 → (if eqb q 1 then 16 else 8) ≡ 8 * 2 ^ q
-replicated_bytes zero h = refl
-replicated_bytes (suc zero) h = refl
-replicated_bytes (suc (suc q)) h = absurd (omega arith)
+replicated_bytes : (q : Bool) → (if q then 16 else 8) ≡ 8 * 2 ^ Q q
+replicated_bytes true = refl
+replicated_bytes false = refl
 
 -- a bit of the governing predicate is a bit of the file
-bit_set : (l : Lent) (g : Governing) (n : ℕ) → n / 8 < l.settings.vl / 64
+bit_set : (l : Lent) (g : Option ℕ) (n : ℕ) → n / 8 < l.settings.vl / 64
     → (bit_of (predicate_of (l.settings.vl / 64) l.predicates g) n ≡ true) ↔ BitSet l g n
 unfolding bit_of
 bit_set l None n there = (λ h. never h (simp zero-div), λ h. absurd h)
-bit_set l (By g) n there =
+bit_set l (Some g) n there =
     let k = l.settings.vl / 64 in
     let in_file = get_or-take k (drop (g * k) l.predicates) _ 0 there ∙ get_or-drop (g * k) l.predicates _ 0 in (
       λ h. ap (λ (b : ℕ). b / 2 ^ (n % 8) % 2) (sym in_file) ∙ eqb-true _ 1 h,
@@ -137,8 +137,8 @@ module _ (l : Lent) (x : List ℕ) (allowed : LengthAllowed l.settings.vl) (i : 
       → (lane_takes (plan s) (governing_bytes l (plan s)) k ≡ true) × (lane_element (plan s) j k ≡ e)
   unfolding spread_of lane_takes lane_element
   takes_there (Replicate q back) fine long j k e h t =
-      let n : ℕ = if eqb q 1 then 16 else 8 in
-      let r = replicated_bytes q fine.0 in
+      let n : ℕ = if q then 16 else 8 in
+      let r = replicated_bytes q in
       (rw (lt-ltb k (n / lane_bytes i) ((in_lanes i.element.lane n (eighth q) k).1 (rw r t.1))), sym t.0)
   takes_there (ByElement imm6) fine long j k e h t =
       (and_both (ltb k (N l i)) _ (lt-ltb k _ h) ((lane_active l (plan (ByElement imm6)) k (each_lane k h)).1 t.1), sym t.0)
@@ -155,8 +155,8 @@ module _ (l : Lent) (x : List ℕ) (allowed : LengthAllowed l.settings.vl) (i : 
       → lane_takes (plan s) (governing_bytes l (plan s)) k ≡ true → TakesAs s l i j k (lane_element (plan s) j k)
   unfolding spread_of lane_takes lane_element
   there_takes (Replicate q back) fine long j k h t =
-      let n : ℕ = if eqb q 1 then 16 else 8 in
-      let r = replicated_bytes q fine.0 in
+      let n : ℕ = if q then 16 else 8 in
+      let r = replicated_bytes q in
       (refl, rw r at ((in_lanes i.element.lane n (eighth q) k).0 (ltb-true k _ (and_left (ltb k (n / lane_bytes i)) _ t))))
   there_takes (ByElement imm6) fine long j k h t =
       (refl, (lane_active l (plan (ByElement imm6)) k (each_lane k h)).0 (and_right (ltb k (N l i)) _ t))

@@ -1,6 +1,6 @@
 -- Two accepted set-ups that agree as demand 3 says: the same answer, count, element and address; and with equal bytes of the active
 -- elements, the same registers afterwards.
-use Rattle.std.specs.Prelude.{if◌then◌else◌, Ok, Err}
+use Rattle.std.specs.Prelude.{if◌then◌else◌}
 use mathlib.Core.Path.{◌≡◌, refl, sym, ap, subst, ◌∙◌}
 use mathlib.Core.Bool.{Bool, true, false}
 use mathlib.Core.List.{List, []}
@@ -12,7 +12,7 @@ use Rattle.ground.specs.Sizes.{bytes_of}
 use Rattle.words.specs.Families.{read_of}
 use Rattle.words.proofs.Decodes.{insn_means}
 use Rattle.words.proofs.Ranges.{means_in_range}
-use Rattle.steps.specs.Insns.{Insn, Decoded, Outside, Undefined, Is}
+use Rattle.steps.specs.Insns.{Insn, Decoded, Outside, Undefined, Ok, Err}
 use Rattle.memory.specs.Areas.{Areas}
 use Rattle.memory.specs.Bytes.{look_of}
 use Rattle.memory.specs.Said.{SamePlaces}
@@ -140,9 +140,9 @@ module _ (l : Lent) (b : Bench) (l' : Lent) (b' : Bench) (accepted : Accepted l 
         P₂ q = P (carried_out l b q) (carried_out l' b' q)
 
         each : (d : Decoded) → read_of w ≡ d → P₂ (at_stack l b.scalars (planned_by l.settings b.scalars d))
-        each Outside e = stop (refusal_report 2)
-        each Undefined e = stop (refusal_report 3)
-        each (Is i) e =
+        each (Err Outside) e = stop (refusal_report 2)
+        each (Err Undefined) e = stop (refusal_report 3)
+        each (Ok i) e =
             ⊎_elim (λ h. subst P₂ (sym h.1) (go i h.0)) (λ h. subst P₂ (sym h.2) (stop h.0))
             (ways l w b accepted i (insn_means w small i e))
 

@@ -9,7 +9,7 @@ use native.Mathlib.Omega.{arith}
 use lib.IntN.{pos, ◌+ℤ◌, ◌*ℤ◌}
 use lib.ListN.{length}
 use Rattle.ground.specs.Sizes.{bytes_of}
-use Rattle.steps.specs.Insns.{Insn, Shape, Replicate, ByElement, Contiguous, Block, Offset, Imm, Reg, Back}
+use Rattle.steps.specs.Insns.{Insn, Shape, Replicate, ByElement, Contiguous, Block, Offset, Imm, Reg, Option}
 use Rattle.memory.specs.Addresses.{wrap, wrapℤ}
 use Rattle.steps.specs.Benches.{Lent, Bench}
 use Rattle.steps.specs.Answers.{number_of, report_of}
@@ -18,7 +18,7 @@ use Rattle.steps.specs.Plans.{spread_of, plan_with, plan_of}
 use Rattle.steps.specs.Lanes.{governing_bytes, wanted, asked, element_at}
 use Rattle.steps.specs.Outcomes.{Outcome}
 use Rattle.steps.specs.Step.{step_of, StepPromise}
-use Rattle.steps.specs.Said.{lane_bytes, N, K, copies, LaneActive}
+use Rattle.steps.specs.Said.{lane_bytes, N, Q, K, copies, LaneActive}
 use Rattle.steps.specs.Demand1.{Ready, AllReadable}
 use Rattle.steps.specs.Demand2.{destination, TakesAs, lane_in, Leaves, Done}
 use Rattle.steps.specs.declared.StepResult.{StepResult}
@@ -81,7 +81,7 @@ module _ (l : Lent) (x : List ℕ) (i : Insn) where
   ld1r_by_element imm6 h = own 0 h (omega arith)
 
   -- LD1R to LD4R: base + e × m, from the base itself on
-  pub replicated : (q : ℕ) (back : Back) → i.shape ≡ Replicate q back → (e : ℕ) → at e ≡ wrap (scalar x i.base + e * bytes_of i.element.memory)
+  pub replicated : (q : Bool) (back : Option ℕ) → i.shape ≡ Replicate q back → (e : ℕ) → at e ≡ wrap (scalar x i.base + e * bytes_of i.element.memory)
   unfolding element_at spread_of
   replicated q back h e = own e h refl
 
@@ -122,7 +122,7 @@ module _ (l : Lent) (w : ℕ) (b : Bench) (r : StepResult) (l₁ : Lent) (b₁ :
       by_promise (λ (o : Outcome). o.report.count ≡ length (asked p (governing_bytes l p))) (ran_count l w b i ready all)
 
   -- LD1R to LD4R: as many as registers.
-  pub replicate_count : (i : Insn) → Ready l w b i → AllReadable l b i → (q : ℕ) (back : Back) → i.shape ≡ Replicate q back → r.count ≡ i.registers
+  pub replicate_count : (i : Insn) → Ready l w b i → AllReadable l b i → (q : Bool) (back : Option ℕ) → i.shape ≡ Replicate q back → r.count ≡ i.registers
   unfolding asked spread_of wanted
   replicate_count i ready all q back h =
       let count : Shape → ℕ = λ s. let p = plan_with i (spread_of l.settings.vl b.scalars i s) in length (asked p (governing_bytes l p)) in
@@ -152,5 +152,5 @@ module _ (l : Lent) (w : ℕ) (b : Bench) (r : StepResult) (l₁ : Lent) (b₁ :
     left_over_zero wide o h q = none h (λ e t. let c = t.1 in omega arith)
 
     -- LD1R to LD4R: "the rest of the Z register becomes zero"
-    pub rest_zero : (q : ℕ) (back : Back) → i.shape ≡ Replicate q back → 8 * 2 ^ q ≤ k * lane_bytes i → lane ≡ 0
+    pub rest_zero : (q : Bool) (back : Option ℕ) → i.shape ≡ Replicate q back → 8 * 2 ^ Q q ≤ k * lane_bytes i → lane ≡ 0
     rest_zero q back h g = none h (λ e t. let c = t.1 in omega arith)

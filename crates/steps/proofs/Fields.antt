@@ -1,5 +1,4 @@
 -- What keeps a plan's elements few, how many destinations it has, and that its write-back is the scope's.
-use Rattle.std.specs.Prelude.{Some}
 use Rattle.std.proofs.lemmas.Option.{none-some, same_Some}
 use mathlib.Core.Path.{◌≡◌, refl, sym, ap, subst, ◌∙◌}
 use mathlib.Core.List.{List}
@@ -13,7 +12,7 @@ use Rattle.ground.proofs.Laws.{true_or_false, if_cases}
 use Rattle.ground.specs.Sizes.{bytes_of}
 use Rattle.ground.specs.declared.Size.{Size}
 use Rattle.words.specs.Ranges.{ShapeInRange}
-use Rattle.steps.specs.Insns.{Insn, Shape, Replicate, ByElement, Contiguous, Block, Keep, Post}
+use Rattle.steps.specs.Insns.{Insn, Shape, Replicate, ByElement, Contiguous, Block, Some, None}
 use Rattle.steps.specs.Terms.{block_bytes}
 use Rattle.steps.specs.Plans.{spread_of, plan_with}
 use Rattle.steps.specs.Lanes.{destinations_in}
@@ -52,10 +51,10 @@ module _ (vl : ℕ) (x : List ℕ) (i : Insn) where
 
   pub back_adds : (s : Shape) (a : ℕ) → (spread_of vl x i s).back ≡ Some a → AddsAs x i s a
   unfolding spread_of
-  back_adds (Replicate q Keep) a h = absurd (none-some a h)
-  back_adds (Replicate q (Post r)) a h =
+  back_adds (Replicate q None) a h = absurd (none-some a h)
+  back_adds (Replicate q (Some r)) a h =
       let is = same_Some _ a h in
-      let Adds : ℕ → Type 0 = AddsAs x i (Replicate q (Post r)) in
+      let Adds : ℕ → Type 0 = AddsAs x i (Replicate q (Some r)) in
       ⊎_elim
       (λ t. subst Adds (sym (offs_sum i i.registers) ∙ rw t at is) (S.size (eqb-true r 31 t)))
       (λ t. subst Adds (rw t at is) (S.register (eqb-false r 31 t)))

@@ -13,7 +13,7 @@ use Rattle.words.specs.Families.{read_of}
 use Rattle.words.proofs.Decodes.{means_read, outside_exactly, undefined_means, insn_means}
 use Rattle.words.specs.Layouts.{Means}
 use Rattle.words.proofs.Ranges.{means_in_range}
-use Rattle.steps.specs.Insns.{Insn, Decoded, Outside, Undefined, Is}
+use Rattle.steps.specs.Insns.{Insn, Decoded, Outside, Undefined, Ok, Err}
 use Rattle.memory.specs.declared.Fault.{Fault}
 use Rattle.memory.specs.declared.Fault.TheVariants.{Nowhere, Denied}
 use Rattle.steps.specs.Benches.{Lent, Bench, is_accepted}
@@ -90,7 +90,7 @@ module _ (l : Lent) (w : ℕ) (b : Bench) where
   abbrev of_load : Insn → Prepared
   of_load i = stacked (planned_load l.settings b.scalars i)
 
-  pub ways : Accepted l b → (i : Insn) → Means w (Is i) → Way i (of_load i)
+  pub ways : Accepted l b → (i : Insn) → Means w (Ok i) → Way i (of_load i)
   unfolding planned_load refusals
   ways a i reads =
       if_cases (λ q. Way i (stacked q)) (is_wide i.shape && not l.settings.f64mm) _ _
@@ -124,13 +124,13 @@ module _ (l : Lent) (w : ℕ) (b : Bench) where
       ))
       )))
 
-  load : Accepted l b → (i : Insn) → Means w (Is i) → Says (of_load i)
+  load : Accepted l b → (i : Insn) → Means w (Ok i) → Says (of_load i)
   load a i reads = ⊎_elim (λ h. subst Says (sym h.1) (carried i h.0)) (λ h. subst Says (sym h.2) h.1) (ways a i reads)
 
   decoded : w < 2 ^ 32 → Accepted l b → (d : Decoded) → read_of w ≡ d → Says (stacked (planned_by l.settings b.scalars d))
-  decoded small a Outside e = S.outside a ((outside_exactly w small).0 e)
-  decoded small a Undefined e = S.undefined a (undefined_means w small e)
-  decoded small a (Is i) e = load a i (insn_means w small i e)
+  decoded small a (Err Outside) e = S.outside a ((outside_exactly w small).0 e)
+  decoded small a (Err Undefined) e = S.undefined a (undefined_means w small e)
+  decoded small a (Ok i) e = load a i (insn_means w small i e)
 
   pub step_given : w < 2 ^ 32 → Given l w b (step_of l w b).report
   unfolding step_of prepared_of planned_of
@@ -144,8 +144,8 @@ module _ (l : Lent) (w : ℕ) (b : Bench) where
   unfolding step_of prepared_of planned_of
   evaluated d a e = rw ((accepted_exactly l b).1 a, e)
 
-  loads : (i : Insn) → Accepted l b → Means w (Is i) → (step_of l w b).report ≡ (carried_out l b (of_load i)).report
-  loads i a e = ap (λ (o : Outcome). o.report) (evaluated (Is i) a (means_read w (Is i) e))
+  loads : (i : Insn) → Accepted l b → Means w (Ok i) → (step_of l w b).report ≡ (carried_out l b (of_load i)).report
+  loads i a e = ap (λ (o : Outcome). o.report) (evaluated (Ok i) a (means_read w (Ok i) e))
 
   f64mm_fine : (i : Insn) → (Wide i → l.settings.f64mm ≡ true) → (is_wide i.shape && not l.settings.f64mm) ≡ false
   f64mm_fine i h = off _ (λ t. never (h ((wide_exactly i.shape).0 (and_left (is_wide i.shape) _ t))) (not-true _ (and_right (is_wide i.shape) _ t)))
@@ -173,7 +173,7 @@ module _ (l : Lent) (w : ℕ) (b : Bench) where
       (λ t. let s = (stack_exactly l b d.accepted i).0 t in s.2 (r.stack s.0 s.1)))
 
   pub ready_goes : (i : Insn) (r : Ready l w b i) → step_of l w b ≡ carried_out l b (Go (plan i))
-  ready_goes i r = evaluated (Is i) r.defined.accepted (means_read w (Is i) r.defined.reads) ∙ ap (carried_out l b) (ready_plan i r)
+  ready_goes i r = evaluated (Ok i) r.defined.accepted (means_read w (Ok i) r.defined.reads) ∙ ap (carried_out l b) (ready_plan i r)
 
   told_by : (o : Outcome) (r : Report) → step_of l w b ≡ o → o.report ≡ r → (step_of l w b).report ≡ r
   told_by o r e h = ap (λ (v : Outcome). v.report) e ∙ h
@@ -200,8 +200,8 @@ module _ (l : Lent) (w : ℕ) (b : Bench) where
       let long = ready.defined.long in
       surveyed i ready _ (survey_clear l b i a long all ∙ ap (λ (n : ℕ). report_with 0 n 0 0) (counted_once (Active l i) (counts_all l b i a long (few_registers i ready)) c))
   meant small r (S.set_up refused) = rw (off (is_accepted l b) (λ t. refused ((accepted_exactly l b).0 t)))
-  meant small r (S.outside a e) = told_by _ _ (evaluated Outside a ((outside_exactly w small).1 e)) refl
-  meant small r (S.undefined a e) = told_by _ _ (evaluated Undefined a (means_read w Undefined e)) refl
+  meant small r (S.outside a e) = told_by _ _ (evaluated (Err Outside) a ((outside_exactly w small).1 e)) refl
+  meant small r (S.undefined a e) = told_by _ _ (evaluated (Err Undefined) a (means_read w (Err Undefined) e)) refl
   meant small r (S.no_f64mm i a e v f) = loads i a e ∙ rw ((wide_exactly i.shape).1 v, f)
   meant small r (S.switched_off i a e has o) =
       loads i a e ∙ rw (f64mm_fine i has, off (switched_on l.settings i.shape) (λ t. o ((on_exactly l i.shape).0 t)))

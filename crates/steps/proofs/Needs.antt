@@ -21,14 +21,14 @@ use Rattle.memory.specs.Addresses.{wrapℤ}
 use Rattle.memory.specs.Areas.{Area, Areas}
 use Rattle.memory.specs.Said.{Holds, Right, AreasAccepted, OneOf, in_flash, in_ram, Both, flashes, rams}
 use Rattle.words.proofs.Ranges.{means_in_range}
-use Rattle.steps.specs.Insns.{Insn, Shape, Replicate, ByElement, Contiguous, Block, Governing, None, By, Imm, Reg}
+use Rattle.steps.specs.Insns.{Insn, Shape, Replicate, ByElement, Contiguous, Block, Imm, Reg, Option, Some, None}
 use Rattle.steps.specs.Benches.{Lent, Bench, InTypes, areas_in}
 use Rattle.steps.specs.Answers.{Report, number_of}
 use Rattle.steps.specs.Terms.{block_bytes}
 use Rattle.steps.specs.Outcomes.{Outcome}
 use Rattle.steps.specs.Step.{step_of, StepPromise}
 use Rattle.steps.specs.declared.StepResult.{StepResult}
-use Rattle.steps.specs.Said.{LengthAllowed, Accepted, m, lane_bytes, N, K, copies, BitSet, LaneActive, ActiveAs, Active, lies_as, byte_at, CanRead}
+use Rattle.steps.specs.Said.{LengthAllowed, Accepted, m, lane_bytes, N, Q, K, copies, BitSet, LaneActive, ActiveAs, Active, lies_as, byte_at, CanRead}
 use Rattle.steps.specs.Demand1.{WideAs, Ready, AllReadable}
 use Rattle.steps.specs.Demand2.{destination, TakesAs, lane_in, Extends, Contains}
 use Rattle.steps.specs.Demand3.{Same, Touched, SameRights, SameBytes}
@@ -73,7 +73,7 @@ module _ (l : Lent) (allowed : LengthAllowed l.settings.vl) (i : Insn) where
       → (j : ℕ) × (j < i.registers) × (k : ℕ) × (k < N l i) × TakesAs s l i j k e
   taken (Replicate q back) fine long e h =
       let least = allowed.least in
-      (e, h, 0, in_register 0 (rw zero-mul (omega arith)), (refl, rw zero-mul (omega (arith, pow_pos q))))
+      (e, h, 0, in_register 0 (rw zero-mul (omega arith)), (refl, rw zero-mul (omega (arith, pow_pos (Q q)))))
   taken (ByElement imm6) fine long e h = (0, single fine.3, h.1.0, h.1.1, (h.0, h.1.2))
   taken (Contiguous o) fine long e h = (0, single fine.3, e, h.0, (refl, h.1))
   taken (Block wide o) fine long e h =
@@ -106,9 +106,9 @@ module _ (l : Lent) (flash flash_rights ram_rights : List ℕ) (i : Insn) where
   abbrev r : Lent
   r = lent_with l flash flash_rights ram_rights
 
-  bit_too : (g : Governing) (n : ℕ) → BitSet l g n → BitSet r g n
+  bit_too : (g : Option ℕ) (n : ℕ) → BitSet l g n → BitSet r g n
   bit_too None n h = h
-  bit_too (By g) n h = h
+  bit_too (Some g) n h = h
 
   lane_too : (e : ℕ) → LaneActive l i e → LaneActive r i e
   lane_too e h = bit_too i.governing (e * lane_bytes i) h

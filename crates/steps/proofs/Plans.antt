@@ -4,7 +4,7 @@ use mathlib.Core.List.{List}
 use Prim.Native.Nat.{ℕ, ◌*◌, ◌/◌, ◌≤◌, ◌<◌}
 use native.Mathlib.Nat.{mul-le-mul_left, le-div_iff_mul-le, div-le_self, div-mul-le_self}
 use native.Mathlib.Omega.{arith}
-use lib.Dec.{eqb, lit<, lit≤}
+use lib.Dec.{lit<, lit≤}
 use Rattle.ground.proofs.Laws.{if_cases}
 use Rattle.ground.proofs.Sizes.{bytes_some, bytes_few}
 use Rattle.ground.specs.Sizes.{bytes_of}
@@ -45,9 +45,9 @@ module _ (vl : ℕ) (x : List ℕ) (allowed : LengthAllowed vl) (i : Insn) (fine
   pub plan_in_range : (s : Shape) → ShapeInRange i s → PlanInRange (plan_with i (spread_of vl x i s))
   unfolding spread_of
   plan_in_range (Replicate q back) h =
-      let n : ℕ = if eqb q 1 then 16 else 8 in
-      let b = if_cases (λ (n : ℕ). n ≤ 16) (eqb q 1) 16 8 (λ _. lit≤ tt) (λ _. lit≤ tt) in
-      sound_with (spread_of vl x i (Replicate q back)) fine.some (let k = fine.few in omega arith) (omega (arith, div-le_self n (bytes_of i.element.lane), b)) h.3 (lit≤ tt)
+      let n : ℕ = if q then 16 else 8 in
+      let b = if_cases (λ (n : ℕ). n ≤ 16) q 16 8 (λ _. lit≤ tt) (λ _. lit≤ tt) in
+      sound_with (spread_of vl x i (Replicate q back)) fine.some (let k = fine.few in omega arith) (omega (arith, div-le_self n (bytes_of i.element.lane), b)) h.2 (lit≤ tt)
   plan_in_range (ByElement imm6) h =
       let n = lanes_most i.element.lane vl allowed.largest in
       sound_with (spread_of vl x i (ByElement imm6)) (lit< tt) (lit≤ tt) n h.1 n

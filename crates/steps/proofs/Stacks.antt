@@ -5,7 +5,7 @@ use mathlib.Core.Logic.{◌↔◌}
 use Prim.Native.Nat.{ℕ, zero, suc, ◌*◌, ◌%◌, ◌≤◌, ◌<◌}
 use Rattle.words.specs.Ranges.{Governed, ShapeInRange}
 use Rattle.words.proofs.Ranges.{means_in_range}
-use Rattle.steps.specs.Insns.{Insn, Shape, Replicate, ByElement, Contiguous, Block, Governing, None, By}
+use Rattle.steps.specs.Insns.{Insn, Shape, Replicate, ByElement, Contiguous, Block, Option, Some, None}
 use Rattle.steps.specs.Benches.{Lent, Bench}
 use Rattle.steps.specs.Answers.{number_of, report_with, report_of}
 use Rattle.steps.specs.Terms.{scalar}
@@ -19,9 +19,9 @@ use Rattle.steps.proofs.Gives.{row_of}
 use Rattle.steps.proofs.Demand1.{demand_1_promise}
 
 -- a predicate that governs is not none
-abbrev IsBy : Governing → Type 0
+abbrev IsBy : Option ℕ → Type 0
 IsBy None = ⊥
-IsBy (By g) = Unit {0}
+IsBy (Some g) = Unit {0}
 
 -- "active anywhere in VL": a lane that starts before bit VL
 abbrev Anywhere : Lent → Insn → Type 0
@@ -45,7 +45,7 @@ module _ (l : Lent) (allowed : LengthAllowed l.settings.vl) (i : Insn) where
   some_anywhere = (λ c. (c.0, (in_register l allowed i c.0).0 c.1, c.2), λ c. (c.0, (in_register l allowed i c.0).1 c.1, c.2))
 
   checks_anywhere : (s : Shape) → ShapeInRange i s → IsBy i.governing → ChecksAs s l i ↔ Anywhere l i
-  checks_anywhere (Replicate q back) fine by = absurd (subst IsBy fine.3 by)
+  checks_anywhere (Replicate q back) fine by = absurd (subst IsBy fine.2 by)
   checks_anywhere (ByElement imm6) fine by = some_anywhere
   checks_anywhere (Contiguous o) fine by = some_anywhere
   checks_anywhere (Block wide o) fine by = some_anywhere
@@ -58,14 +58,14 @@ module _ (l : Lent) (allowed : LengthAllowed l.settings.vl) (i : Insn) where
   checks_always (Block wide o) fine none = absurd (subst Governed none fine.1)
 
 -- a load that is defined and that a predicate governs checks exactly if a lane is active anywhere
-governed : (l : Lent) (w : ℕ) (b : Bench) (i : Insn) (d : Defined l w b i) (g : ℕ) → i.governing ≡ By g → Checks l i ↔ Anywhere l i
+governed : (l : Lent) (w : ℕ) (b : Bench) (i : Insn) (d : Defined l w b i) (g : ℕ) → i.governing ≡ Some g → Checks l i ↔ Anywhere l i
 governed l w b i d g by = checks_anywhere l d.accepted.allowed i i.shape (means_in_range w i d.reads).shape (subst IsBy (sym by) tt)
 
 -- 5 is given for a load that is defined and on, SP its base and no multiple of 16, and where a predicate governs with a lane active anywhere in VL;
 -- and for nothing else.
 pub stack_only : (l : Lent) (w : ℕ) (b : Bench) (r : StepResult) (l₁ : Lent) (b₁ : Bench) → StepPromise l w b r l₁ b₁ → number_of r.answer ≡ 5
     → (i : Insn) × Defined l w b i × (i.base ≡ 31) × (scalar b.scalars 31 % 16 ≡ 0 → ⊥)
-    × ((g : ℕ) → i.governing ≡ By g → (e : ℕ) × (e * (8 * lane_bytes i) < l.settings.vl) × LaneActive l i e)
+    × ((g : ℕ) → i.governing ≡ Some g → (e : ℕ) × (e * (8 * lane_bytes i) < l.settings.vl) × LaneActive l i e)
 stack_only l w b r l₁ b₁ p five =
     let f = (row_of l w b _ (((demand_1_promise l w b r l₁ b₁ p).0 _).1 refl)).1 five in
     (f.0, f.1, f.2, f.4, λ g by. (governed l w b f.0 f.1 g by).0 f.3)
@@ -83,7 +83,7 @@ module _ (l : Lent) (w : ℕ) (b : Bench) (r : StepResult) (l₁ : Lent) (b₁ :
 
   -- Such a load, SP its base and no multiple of 16, governed by a predicate: 5 if a lane is active anywhere in VL, one of the block or not; and if
   -- none is, it runs, and reads nothing.
-  pub stack_anywhere : (g : ℕ) → i.governing ≡ By g
+  pub stack_anywhere : (g : ℕ) → i.governing ≡ Some g
       → ((e : ℕ) → e * (8 * lane_bytes i) < l.settings.vl → LaneActive l i e → report_of r ≡ report_with 5 0 0 0)
       × (((e : ℕ) → e * (8 * lane_bytes i) < l.settings.vl → LaneActive l i e → ⊥) → report_of r ≡ report_with 0 0 0 0)
   stack_anywhere g by =

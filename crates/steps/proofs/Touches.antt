@@ -19,7 +19,7 @@ use Rattle.memory.specs.Areas.{Area, Areas, covers, place_in}
 use Rattle.memory.specs.Said.{Holds, AreasAccepted, Both, flashes, rams}
 use Rattle.memory.specs.declared.Place.{Place}
 use Rattle.memory.proofs.Places.{holds_exactly, holds_not, place_flash, place_ram, place_nowhere}
-use Rattle.steps.specs.Insns.{Insn, Decoded, Outside, Undefined, Is}
+use Rattle.steps.specs.Insns.{Insn, Decoded, Outside, Undefined, Ok, Err}
 use Rattle.steps.specs.Benches.{Lent, Bench, areas_in}
 use Rattle.steps.specs.Answers.{Report}
 use Rattle.steps.specs.Plans.{plan_of}
@@ -40,8 +40,8 @@ module _ (l : Lent) (w : ℕ) (b : Bench) where
   planned i = plan_of l.settings.vl b.scalars i
 
   -- a load that is ready is what the word is read as
-  pub ready_reads : (i : Insn) → Ready l w b i → read_of w ≡ Is i
-  ready_reads i ready = means_read w (Is i) ready.defined.reads
+  pub ready_reads : (i : Insn) → Ready l w b i → read_of w ≡ Ok i
+  ready_reads i ready = means_read w (Ok i) ready.defined.reads
 
   -- it comes to its plan,
   to_plan : (i : Insn) → Ready l w b i → prepared_of l b.scalars w ≡ Go (planned i)
@@ -59,9 +59,9 @@ module _ (l : Lent) (w : ℕ) (b : Bench) where
 
       go : (d : Decoded) → read_of w ≡ d → at_stack l b.scalars (planned_by l.settings b.scalars d) ≡ Go p
           → (i : Insn) × Ready l w b i × (planned i ≡ p)
-      go Outside e h = absurd (stop _ h)
-      go Undefined e h = absurd (stop _ h)
-      go (Is i) e h = ⊎_elim (λ r. let q = r.1 in (i, r.0, cc)) (λ r. absurd (stop _ (sym r.2 ∙ h))) (ways l w b accepted i (insn_means w small i e))
+      go (Err Outside) e h = absurd (stop _ h)
+      go (Err Undefined) e h = absurd (stop _ h)
+      go (Ok i) e h = ⊎_elim (λ r. let q = r.1 in (i, r.0, cc)) (λ r. absurd (stop _ (sym r.2 ∙ h))) (ways l w b accepted i (insn_means w small i e))
 
   -- a byte of an active element is one that the definition asks for,
   asks_touched : (a : ℕ) → Touched l w b a → AsksFor l w b a
@@ -101,10 +101,10 @@ module _ (l : Lent) (w : ℕ) (b : Bench) where
   touched_exactly small a = (asks_touched a, touched_asked small a)
 
   -- the load that ran is the one that the word is read as
-  pub ran_as : w < 2 ^ 32 → (i : Insn) → read_of w ≡ Is i → (step_of l w b).report.number ≡ 0 → Ready l w b i × AllReadable l b i
+  pub ran_as : w < 2 ^ 32 → (i : Insn) → read_of w ≡ Ok i → (step_of l w b).report.number ≡ 0 → Ready l w b i × AllReadable l b i
   ran_as small i reads z =
       let r = ran_only l w b small z in
-      let same : ◌≡◌ {A = Decoded} (Is r.0) (Is i) = sym (ready_reads r.0 r.1) ∙ reads in
+      let same : ◌≡◌ {A = Decoded} (Ok r.0) (Ok i) = sym (ready_reads r.0 r.1) ∙ reads in
       let e : r.0 ≡ i = cc in
       subst (λ (j : Insn). Ready l w b j × AllReadable l b j) e (r.1, r.2)
 

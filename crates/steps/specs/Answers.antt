@@ -1,6 +1,8 @@
 -- "When the bench says no": the numbers of the scope of work, for each case of the answer.
 use Rattle.std.specs.Prelude.{ℕ, ◌≡◌}
 use Rattle.steps.specs.declared.Answer.{Answer}
+use Rattle.words.specs.declared.NotALoad.{NotALoad}
+use Rattle.words.specs.declared.NotALoad.TheVariants as N
 use Rattle.memory.specs.declared.Address.{Address}
 use Rattle.memory.specs.declared.Fault.{Fault}
 use Rattle.memory.specs.declared.Fault.TheVariants.{Nowhere, Denied}
@@ -11,6 +13,11 @@ use Rattle.steps.specs.declared.StepResult.{StepResult}
 abbrev pub fault_number : Fault → ℕ
 fault_number Nowhere = 6
 fault_number Denied = 7
+
+-- the answer that a word which is no load earns: "2 .. or 3 from the word"
+abbrev pub earned_by : NotALoad → Answer
+earned_by N.Outside = Outside
+earned_by N.Undefined = Undefined
 
 abbrev pub number_of : Answer → ℕ
 number_of Ran = 0

@@ -1,7 +1,7 @@
 -- Demand 1, as it is stated: "When the bench says no", row by row, with the count, element and address of each answer.
 use Rattle.std.specs.Prelude.{ℕ, suc, ◌%◌, ◌≤◌, ◌<◌, ◌≡◌, true, false}
 use Rattle.words.specs.Layouts.{LaidOut, Means}
-use Rattle.steps.specs.Insns.{Insn, Shape, Replicate, ByElement, Contiguous, Block, Undefined, Is}
+use Rattle.steps.specs.Insns.{Insn, Shape, Replicate, ByElement, Contiguous, Block, Undefined, Ok, Err}
 use Rattle.memory.specs.Areas.{Areas}
 use Rattle.steps.specs.Benches.{Lent, Bench, areas_in}
 use Rattle.steps.specs.Answers.{Report, report_with}
@@ -46,7 +46,7 @@ On l i = OnAs i.shape l
 -- an accepted set-up whose word is a load that is defined and on
 pub record Defined (l : Lent) (w : ℕ) (b : Bench) (i : Insn) : Type 0 where
   pub accepted : Accepted l b
-  pub reads : Means w (Is i)
+  pub reads : Means w (Ok i)
   pub f64mm : Wide i → l.settings.f64mm ≡ true
   pub on : On l i
   pub long : Wide i → 256 ≤ l.settings.vl
@@ -68,10 +68,10 @@ pub data Given (l : Lent) (w : ℕ) (b : Bench) : Report → Type 0 where
   ran : {n : ℕ} (i : Insn) → Ready l w b i → AllReadable l b i → Counted (Active l i) element_limit n → Given l w b (report_with 0 n 0 0)
   set_up : (Accepted l b → ⊥) → Given l w b (report_with 1 0 0 0)
   outside : Accepted l b → (LaidOut w → ⊥) → Given l w b (report_with 2 0 0 0)
-  undefined : Accepted l b → Means w Undefined → Given l w b (report_with 3 0 0 0)
-  no_f64mm : (i : Insn) → Accepted l b → Means w (Is i) → Wide i → l.settings.f64mm ≡ false → Given l w b (report_with 3 0 0 0)
-  switched_off : (i : Insn) → Accepted l b → Means w (Is i) → (Wide i → l.settings.f64mm ≡ true) → (On l i → ⊥) → Given l w b (report_with 4 0 0 0)
-  short : (i : Insn) → Accepted l b → Means w (Is i) → Wide i → l.settings.f64mm ≡ true → On l i → l.settings.vl < 256 → Given l w b (report_with 3 0 0 0)
+  undefined : Accepted l b → Means w (Err Undefined) → Given l w b (report_with 3 0 0 0)
+  no_f64mm : (i : Insn) → Accepted l b → Means w (Ok i) → Wide i → l.settings.f64mm ≡ false → Given l w b (report_with 3 0 0 0)
+  switched_off : (i : Insn) → Accepted l b → Means w (Ok i) → (Wide i → l.settings.f64mm ≡ true) → (On l i → ⊥) → Given l w b (report_with 4 0 0 0)
+  short : (i : Insn) → Accepted l b → Means w (Ok i) → Wide i → l.settings.f64mm ≡ true → On l i → l.settings.vl < 256 → Given l w b (report_with 3 0 0 0)
   stack : (i : Insn) → Defined l w b i → i.base ≡ 31 → Checks l i → (scalar b.scalars 31 % 16 ≡ 0 → ⊥) → Given l w b (report_with 5 0 0 0)
   no_memory : {n : ℕ} (i : Insn) (e k : ℕ) → Ready l w b i → FirstBad Missing l b i e k → Counted (Active l i) e n
       → Given l w b (report_with 6 n e (byte_at l b.scalars i e k))

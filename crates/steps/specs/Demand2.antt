@@ -1,14 +1,14 @@
 -- Demand 2, as it is stated: what a load that ran leaves in the destinations, the base and PC, and all else as it was.
 use Rattle.std.specs.Prelude.{if◌then◌else◌, ℕ, zero, suc, ◌+◌, ◌-◌, ◌*◌, ◌/◌, ◌%◌, ◌^◌, ◌≤◌, ◌<◌, eqb, ◌≡◌, Bool, true, false, List, length, get_or}
 use Rattle.ground.specs.Lists.{little}
-use Rattle.steps.specs.Insns.{Insn, Shape, Replicate, ByElement, Contiguous, Block, Post}
+use Rattle.steps.specs.Insns.{Insn, Shape, Replicate, ByElement, Contiguous, Block, Some}
 use Rattle.memory.specs.Addresses.{wrap}
 use Rattle.memory.specs.Areas.{Area, Areas}
 use Rattle.memory.specs.Said.{Holds, OneOf}
 use Rattle.steps.specs.Benches.{Lent, Bench, areas_in}
 use Rattle.steps.specs.Terms.{scalar}
 use Rattle.steps.specs.Demand1.{Ready, AllReadable}
-use Rattle.steps.specs.Said.{m, lane_bytes, N, K, copies, LaneActive, offs, byte_at}
+use Rattle.steps.specs.Said.{m, lane_bytes, N, Q, K, copies, LaneActive, offs, byte_at}
 
 -- "31 followed by 0"
 abbrev pub followed : ℕ → ℕ
@@ -26,7 +26,7 @@ IsDestination i r = (j : ℕ) × (j < i.registers) × (r ≡ destination i j)
 -- lane k of destination j takes element e: "successive elements go to registers t, t+1 and on"; of the others, which have one destination, in a
 -- block load element k mod K, where that one of the block's own lanes is active
 abbrev pub TakesAs : Shape → Lent → Insn → ℕ → ℕ → ℕ → Type 0
-TakesAs (Replicate q back) l i j k e = (e ≡ j) × (k * lane_bytes i < 8 * 2 ^ q)
+TakesAs (Replicate q back) l i j k e = (e ≡ j) × (k * lane_bytes i < 8 * 2 ^ Q q)
 TakesAs (ByElement imm6) l i j k e = (e ≡ 0) × LaneActive l i k
 TakesAs (Contiguous offset) l i j k e = (e ≡ k) × LaneActive l i k
 TakesAs (Block wide offset) l i j k e =
@@ -57,8 +57,8 @@ pub record ElementValue (l : Lent) (b : Bench) (i : Insn) (e v : ℕ) : Type 0 w
 -- "Post-index adds the read's size when Rm = 31, else Xm as it was before the step"; of LD2R to LD4R, "the sum of the reads":
 -- what `offs` has become after the last. No other shape has a case: it writes nothing back
 pub data AddsAs (x : List ℕ) (i : Insn) : Shape → ℕ → Type 0 where
-  size : {q r : ℕ} → r ≡ 31 → AddsAs x i (Replicate q (Post r)) (offs i i.registers)
-  register : {q r : ℕ} → (r ≡ 31 → ⊥) → AddsAs x i (Replicate q (Post r)) (scalar x r)
+  size : {q : Bool} {r : ℕ} → r ≡ 31 → AddsAs x i (Replicate q (Some r)) (offs i i.registers)
+  register : {q : Bool} {r : ℕ} → (r ≡ 31 → ⊥) → AddsAs x i (Replicate q (Some r)) (scalar x r)
 
 abbrev pub Adds : List ℕ → Insn → ℕ → Type 0
 Adds x i a = AddsAs x i i.shape a

@@ -3,16 +3,16 @@ use Rattle.std.specs.Prelude.{ℕ, ◌+◌, ◌*◌, ◌/◌, ◌%◌, ◌^◌, 
 use Rattle.ground.specs.Lists.{up_from, any_below}
 use Rattle.ground.specs.Sizes.{bytes_of}
 use Rattle.memory.specs.Addresses.{plus_of}
-use Rattle.steps.specs.Insns.{Governing, None, By}
+use Rattle.steps.specs.Insns.{Option, Some, None}
 use Rattle.steps.specs.Benches.{Lent}
 use Rattle.steps.specs.declared.Rule.{Rule}
 use Rattle.steps.specs.declared.Rule.TheVariants.{Always, LaneBit, ElementBit}
 use Rattle.steps.specs.declared.Plan.{Plan}
 
 -- the bytes of the governing predicate, where there is one, in a file of registers of n bytes
-abbrev pub predicate_of : ℕ → List ℕ → Governing → List ℕ
+abbrev pub predicate_of : ℕ → List ℕ → Option ℕ → List ℕ
 predicate_of n file None = []
-predicate_of n file (By g) = take n (drop (g * n) file)
+predicate_of n file (Some g) = take n (drop (g * n) file)
 
 -- a predicate register has VL/64 bytes
 unfoldable pub governing_bytes : Lent → Plan → List ℕ

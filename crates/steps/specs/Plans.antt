@@ -1,8 +1,8 @@
 -- "How a load reads": from the instruction, the settings and the scalars. No memory is in sight.
-use Rattle.std.specs.Prelude.{if◌then◌else◌, ℕ, ◌+◌, ◌*◌, ◌/◌, List, Option, Some, None, eqb, pos, ◌*ℤ◌}
+use Rattle.std.specs.Prelude.{if◌then◌else◌, ℕ, ◌+◌, ◌*◌, ◌/◌, Bool, List, eqb, pos, ◌*ℤ◌}
 use Rattle.ground.specs.Sizes.{bytes_of}
 use Rattle.ground.specs.declared.Size.{Size}
-use Rattle.steps.specs.Insns.{Insn, Shape, Replicate, ByElement, Contiguous, Block, Offset, Imm, Reg, Back, Keep, Post}
+use Rattle.steps.specs.Insns.{Insn, Shape, Replicate, ByElement, Contiguous, Block, Offset, Imm, Reg, Option, Some, None}
 use Rattle.memory.specs.Addresses.{wrap, moved_of}
 use Rattle.steps.specs.Terms.{signed4, scalar, block_bytes}
 use Rattle.steps.specs.declared.Rule.{Rule}
@@ -20,9 +20,9 @@ start_of x rn size block (Reg r) = wrap (scalar x rn + scalar x r * bytes_of siz
 
 -- what is added to the base where it is written back: "Post-index adds the read's size when Rm = 31, else Xm as it was before the step", and of LD2R to
 -- LD4R "the sum of the reads": so many bytes
-abbrev pub added_of : List ℕ → ℕ → Back → Option ℕ
-added_of x bytes Keep = None
-added_of x bytes (Post r) = Some (if eqb r 31 then bytes else scalar x r)
+abbrev pub added_of : List ℕ → ℕ → Option ℕ → Option ℕ
+added_of x bytes None = None
+added_of x bytes (Some r) = Some (if eqb r 31 then bytes else scalar x r)
 
 -- what a load's shape decides of its plan: where element 0 lies, its elements, the lanes that take one, what decides, the lanes that the
 -- stack rule consults, and what is added to the base where it is written back
@@ -40,12 +40,12 @@ spread_with start elements filled rule consulted =
     record { start = start; elements = elements; filled = filled; rule = rule; consulted = consulted; back = None }
 
 -- .. of LD1R to LD4R: a read for each register, over 64 bits (Q=0) or 128; the rest of the register becomes zero
-abbrev pub replicated : List ℕ → Insn → ℕ → Back → Spread
+abbrev pub replicated : List ℕ → Insn → Bool → Option ℕ → Spread
 replicated x i q back =
     record {
       start = scalar x i.base;
       elements = i.registers;
-      filled = (if eqb q 1 then 16 else 8) / bytes_of i.element.lane;
+      filled = (if q then 16 else 8) / bytes_of i.element.lane;
       rule = Always;
       consulted = 0;
       back = added_of x (i.registers * bytes_of i.element.memory) back;

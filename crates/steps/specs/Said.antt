@@ -1,8 +1,8 @@
 -- Document 01's own words and formulas, of the stack rule request Two's, and where LD2R to LD4R came in page 004's, as statements about an
 -- instruction and the lent bench. Nothing here uses the plan: the demands are stated in these words, and their proofs tie the plan to them.
-use Rattle.std.specs.Prelude.{ℕ, zero, suc, ◌+◌, ◌*◌, ◌/◌, ◌%◌, ◌^◌, ◌≤◌, ◌<◌, ◌≡◌, Bool, List, ℤ, pos, ◌+ℤ◌, ◌*ℤ◌, length, get_or}
+use Rattle.std.specs.Prelude.{ℕ, zero, suc, ◌+◌, ◌*◌, ◌/◌, ◌%◌, ◌^◌, ◌≤◌, ◌<◌, ◌≡◌, Bool, true, false, List, ℤ, pos, ◌+ℤ◌, ◌*ℤ◌, length, get_or}
 use Rattle.ground.specs.Sizes.{bytes_of}
-use Rattle.steps.specs.Insns.{Insn, Shape, Replicate, ByElement, Contiguous, Block, Governing, None, By, Imm, Reg}
+use Rattle.steps.specs.Insns.{Insn, Shape, Replicate, ByElement, Contiguous, Block, Imm, Reg, Option, Some, None}
 use Rattle.memory.specs.Addresses.{wrapℤ}
 use Rattle.memory.specs.Areas.{Area, Areas}
 use Rattle.memory.specs.Said.{Holds, Right, AreasAccepted, OneOf}
@@ -34,6 +34,11 @@ lane_bytes i = bytes_of i.element.lane
 abbrev pub N : Lent → Insn → ℕ
 N l i = l.settings.vl / (8 * lane_bytes i)
 
+-- Q, as the pages call it: 0 where LD1R to LD4R fill 64 bits, and 1 where they fill 128
+abbrev pub Q : Bool → ℕ
+Q false = 0
+Q true = 1
+
 -- K, our letter: how many lanes a block of 128 or 256 bits has; lane k takes element k mod K
 abbrev pub K : Bool → Insn → ℕ
 K wide i = block_bytes wide / lane_bytes i
@@ -43,9 +48,9 @@ abbrev pub copies : Lent → Bool → ℕ
 copies l wide = l.settings.vl / (8 * block_bytes wide)
 
 -- bit n of the governing predicate is 1: register g starts at byte g × VL/64 of the file
-abbrev pub BitSet : Lent → Governing → ℕ → Type 0
+abbrev pub BitSet : Lent → Option ℕ → ℕ → Type 0
 BitSet l None n = ⊥
-BitSet l (By g) n = get_or l.predicates (g * (l.settings.vl / 64) + n / 8) 0 / 2 ^ (n % 8) % 2 ≡ 1
+BitSet l (Some g) n = get_or l.predicates (g * (l.settings.vl / 64) + n / 8) 0 / 2 ^ (n % 8) % 2 ≡ 1
 
 -- "Lane e is active exactly if predicate bit e × (lane size / 8) is 1"
 abbrev pub LaneActive : Lent → Insn → ℕ → Type 0

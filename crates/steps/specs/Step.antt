@@ -1,10 +1,10 @@
 -- One step, whole.
-use Rattle.std.specs.Prelude.{if◌then◌else◌, ℕ, ◌%◌, ◌≡◌, Bool, false, not, ◌&&◌, List, [], ◌∷◌, Result, Ok, Err, ltb, eqb}
+use Rattle.std.specs.Prelude.{if◌then◌else◌, ℕ, ◌%◌, ◌≡◌, Bool, false, not, ◌&&◌, List, [], ◌∷◌, ltb, eqb}
 use Rattle.ground.specs.Choices.{Row, ◌⇒◌, first_of}
 use Rattle.words.specs.Families.{read_of}
-use Rattle.steps.specs.Insns.{Insn, Shape, Replicate, ByElement, Contiguous, Block, Decoded, Outside, Undefined, Is}
+use Rattle.steps.specs.Insns.{Insn, Shape, Replicate, ByElement, Contiguous, Block, Decoded, Result, Ok, Err}
 use Rattle.steps.specs.Benches.{Lent, Bench, InTypes, is_accepted}
-use Rattle.steps.specs.Answers.{Report, report_of, refusal_report}
+use Rattle.steps.specs.Answers.{Report, report_of, refusal_report, earned_by}
 use Rattle.steps.specs.Terms.{scalar}
 use Rattle.steps.specs.Plans.{plan_of}
 use Rattle.steps.specs.Lanes.{governing_bytes, checks_stack}
@@ -49,9 +49,8 @@ unfoldable pub planned_load : Settings → List ℕ → Insn → Planned
 planned_load s x i = first_of (refusals s i) (Ok (plan_of s.vl x i))
 
 abbrev pub planned_by : Settings → List ℕ → Decoded → Planned
-planned_by s x Outside = Err A.Outside
-planned_by s x Undefined = Err A.Undefined
-planned_by s x (Is i) = planned_load s x i
+planned_by s x (Ok i) = planned_load s x i
+planned_by s x (Err why) = Err (earned_by why)
 
 -- what a word is about to do: no predicate and no memory is in sight
 unfoldable pub planned_of : Settings → List ℕ → ℕ → Planned

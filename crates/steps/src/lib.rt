@@ -3,11 +3,11 @@
 
 ghost use Rattle.std.specs.Prelude.{◌≡◌};
 ghost use Rattle.steps.specs.Benches.{AllowedPromise};
-ghost use Rattle.steps.specs.Answers.{fault_number, AnswerNumberPromise, AnswerElementPromise, AnswerAddressPromise};
+ghost use Rattle.steps.specs.Answers.{fault_number, earned_by, AnswerNumberPromise, AnswerElementPromise, AnswerAddressPromise};
 
 use ground::Size;
 use memory::{Address, Fault, Map};
-use words::Governing;
+use words::NotALoad;
 
 // The vector length in bits, and the switches.
 #[derive(Clone, Copy)]
@@ -51,6 +51,17 @@ fn fault_number(fault: Fault) -> u64
     match fault {
         Fault::Nowhere => 6,
         Fault::Denied => 7,
+    }
+}
+
+impl From<NotALoad> for Answer {
+    ghost from_gives = { λ why answer. answer ≡ earned_by why };
+
+    fn from(why: NotALoad) -> Answer {
+        match why {
+            NotALoad::Outside => Answer::Outside,
+            NotALoad::Undefined => Answer::Undefined,
+        }
     }
 }
 
@@ -116,7 +127,7 @@ pub struct Plan {
     pub filled: u64,
     pub rule: Rule,
     pub consulted: u64,
-    pub governing: Governing,
+    pub governing: Option<u32>,
     pub base: u32,
     pub target: u32,
     pub back: Option<u64>,
