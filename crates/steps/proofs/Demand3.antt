@@ -18,7 +18,7 @@ use Rattle.steps.specs.Lanes.{governing_bytes, wanted}
 use Rattle.steps.specs.Outcomes.{Outcome, survey_of, outcome_of}
 use Rattle.steps.specs.declared.Plan.{Plan}
 use Rattle.memory.specs.Troubles.{trouble_of}
-use Rattle.memory.specs.declared.Reading.{Reading}
+use Rattle.memory.specs.Elements.{Reading}
 use Rattle.steps.specs.Step.{StepPromise}
 use Rattle.steps.specs.Said.{Accepted}
 use Rattle.steps.specs.Demand2.{Done}

@@ -14,7 +14,7 @@ use Rattle.ground.proofs.Laws.{true_or_false, if_cong, and_left, and_right, any_
 use Rattle.ground.proofs.Firsts.{handed_down}
 use Rattle.ground.specs.Sizes.{bytes_of}
 use Rattle.memory.specs.Troubles.{trouble_of}
-use Rattle.memory.specs.declared.Reading.{Reading}
+use Rattle.memory.specs.Elements.{Reading}
 use Rattle.steps.specs.Benches.{Lent, Bench}
 use Rattle.steps.specs.Lanes.{governing_bytes, is_active, wanted_by, wanted, asked, may_take_by, lane_takes, element_by, lane_element, destinations_by, destinations_in}
 use Rattle.steps.specs.Outcomes.{walk, survey_of, lane_value, register_byte, register_of, vectors_after, bench_after, outcome_of}

@@ -18,7 +18,7 @@ use Rattle.ground.proofs.Laws.{little_digits, little_cong, pow_bytes}
 use Rattle.ground.proofs.Sizes.{register_room}
 use Rattle.ground.specs.Sizes.{bytes_of}
 use Rattle.memory.specs.Addresses.{plus_of}
-use Rattle.memory.specs.declared.Reading.{Reading}
+use Rattle.memory.specs.Elements.{Reading}
 use Rattle.steps.specs.Benches.{Lent}
 use Rattle.steps.specs.Terms.{scalar}
 use Rattle.steps.specs.Lanes.{governing_bytes, destination_of}

@@ -1,5 +1,5 @@
 -- A load that is ready, and whose active elements can all be read, leaves what the scope of work says.
-use Rattle.std.specs.Prelude.{if◌then◌else◌}
+use Rattle.std.specs.Prelude.{if◌then◌else◌, Ok, Err}
 use mathlib.Core.Path.{◌≡◌, refl, sym, ap, ◌∙◌}
 use mathlib.Core.Bool.{Bool, true, false}
 use Prim.Native.Nat.{ℕ, ◌-◌, ◌%◌, ◌^◌, ◌≤◌, ◌<◌}
@@ -16,9 +16,7 @@ use Rattle.memory.specs.Bytes.{read_right, judged, look_of}
 use Rattle.memory.specs.Said.{AreasAccepted}
 use Rattle.memory.specs.Troubles.{FindsByte, byte_found}
 use Rattle.memory.specs.declared.Fault.TheVariants.{Denied}
-use Rattle.memory.specs.declared.Cell.TheVariants.{Byte, Bad}
-use Rattle.memory.specs.declared.Reading.{Reading}
-use Rattle.memory.specs.declared.Reading.TheVariants.{Value}
+use Rattle.memory.specs.Elements.{Reading}
 use Rattle.memory.proofs.Looks.{looked}
 use Rattle.memory.proofs.Elements.{value_exactly}
 use Rattle.steps.specs.Benches.{Lent, Bench, areas_in}
@@ -44,7 +42,7 @@ found : (s : Areas) (accepted : AreasAccepted s) (a v : ℕ) → CanRead s a →
 unfolding judged
 found s accepted a v c (r, o, h, e, k) = go (read_right r.rights (a - r.start)) (looked s accepted a o h) ((can_read s accepted a).1 c)
   where
-    go : (t : Bool) → look_of s a ≡ (if t then Byte (get_or r.bytes (a - r.start) 0) else Bad Denied) → FindsByte (look_of s) a → byte_found (look_of s a) ≡ v
+    go : (t : Bool) → look_of s a ≡ (if t then Ok (get_or r.bytes (a - r.start) 0) else Err Denied) → FindsByte (look_of s) a → byte_found (look_of s a) ≡ v
     go true p q = ap byte_found p ∙ sym e
     go false p q = let d = q.1 in let z : ◌≡◌ {A = ℕ} 0 1 = cc in absurd (omega arith)
 
@@ -56,7 +54,7 @@ module _ (l : Lent) (w : ℕ) (b : Bench) (i : Insn) (ready : Ready l w b i) (al
   answer = answers_of l b plan
 
   -- an active element is read as its value
-  read_as : (e v : ℕ) → Active l i e → ElementValue l b i e v → answer e ≡ Value v
+  read_as : (e v : ℕ) → Active l i e → ElementValue l b i e v → answer e ≡ Ok v
   read_as e v q h =
       let accepted = ready.defined.accepted.areas in
       let look = look_of (areas_in l b) in
@@ -98,7 +96,7 @@ module _ (l : Lent) (w : ℕ) (b : Bench) (i : Insn) (ready : Ready l w b i) (al
   unfolding bench_after
   lane_said j k d h = rw (destined j) (lane_is answer l b.vectors plan ready.defined.accepted.vectors (destinations_in plan) j (among j d) few k h)
 
-  value_said : (j k e v : ℕ) → k < N l i → Takes l i j k e → answer e ≡ Value v
+  value_said : (j k e v : ℕ) → k < N l i → Takes l i j k e → answer e ≡ Ok v
       → lane_value answer plan (governing_bytes l plan) j k ≡ extended i.element.signed (m i) (lane_bytes i) v
   unfolding lane_value
   value_said j k e v h t r =

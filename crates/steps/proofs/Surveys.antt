@@ -12,7 +12,7 @@ use borrow.Author.Tests.{leb-true, leb-false}
 use Rattle.ground.proofs.Laws.{true_or_false}
 use Rattle.steps.specs.Insns.{Insn}
 use Rattle.ground.specs.Lists.{up_from}
-use Rattle.memory.specs.declared.Reading.{Reading}
+use Rattle.memory.specs.Elements.{Reading}
 use Rattle.memory.specs.declared.Fault.{Fault}
 use Rattle.steps.specs.Benches.{Lent, Bench}
 use Rattle.steps.specs.Answers.{report_with}

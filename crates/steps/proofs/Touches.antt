@@ -19,7 +19,7 @@ use Rattle.memory.specs.Areas.{Area, Areas, covers, place_in}
 use Rattle.memory.specs.Said.{Holds, AreasAccepted, Both, flashes, rams}
 use Rattle.memory.specs.declared.Place.{Place}
 use Rattle.memory.proofs.Places.{holds_exactly, holds_not, place_flash, place_ram, place_nowhere}
-use Rattle.steps.specs.Insns.{Insn, Decoded, Outside, Undefined, Ok, Err}
+use Rattle.steps.specs.Insns.{Insn, Decoded, Outside, Undefined, Ok, Err, Option}
 use Rattle.steps.specs.Benches.{Lent, Bench, areas_in}
 use Rattle.steps.specs.Answers.{Report}
 use Rattle.steps.specs.Plans.{plan_of}
@@ -121,7 +121,7 @@ Fellows find m n a = (r r' : Area) → Both m n r r' → Holds r a → find r (a
 -- two memories whose areas start alike agree at the place of an address exactly when each area that holds it agrees with its fellow
 module _ {A : Type 0} (find : Area → ℕ → A) (m n : Areas) (accepted : AreasAccepted m)
     (flash : m.flash.start ≡ n.flash.start) (ram : m.ram.start ≡ n.ram.start) (a : ℕ) where
-  abbrev At : Place → Type 0
+  abbrev At : Option Place → Type 0
   At p = AgreeAt find m n p
 
   moved : (r : Area) {x y : ℕ} → x ≡ y → find r (a - x) ≡ find r (a - y)

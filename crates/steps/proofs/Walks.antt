@@ -1,4 +1,5 @@
 -- The walk over the elements asked for, over any wishes and any answers: how it ends, and with what count.
+use Rattle.std.specs.Prelude.{Ok, Err}
 use mathlib.Core.Path.{◌≡◌, refl, ap, ◌∙◌}
 use mathlib.Core.Bool.{Bool, true}
 use mathlib.Core.List.{List}
@@ -12,8 +13,7 @@ use Rattle.ground.proofs.Laws.{true_or_false, never}
 use Rattle.ground.proofs.Firsts.{clear_or_first, handed_down}
 use Rattle.memory.specs.Troubles.{Trouble, none, bad, trouble_of}
 use Rattle.memory.specs.declared.Fault.{Fault}
-use Rattle.memory.specs.declared.Reading.{Reading}
-use Rattle.memory.specs.declared.Reading.TheVariants as R
+use Rattle.memory.specs.Elements.{Reading, bad_at}
 use Rattle.steps.specs.Answers.{fault_number, Report, report_with}
 use Rattle.steps.specs.Outcomes.{on_reading, walk}
 
@@ -41,10 +41,10 @@ pub record Stopped (want : ℕ → Bool) (answer : ℕ → Reading) (i n : ℕ) 
 
 -- an element's part in the walk is its trouble
 pub on_same : (r s : Reading) (e c : ℕ) (x y : Report) → trouble_of r ≡ trouble_of s → x ≡ y → on_reading r e c x ≡ on_reading s e c y
-on_same (R.Value v) (R.Value w) e c x y h k = k
-on_same (R.Value v) (R.Bad f a) e c x y h k = let z : ◌≡◌ {A = ℕ} 0 1 = cc in absurd (omega arith)
-on_same (R.Bad f a) (R.Value w) e c x y h k = let z : ◌≡◌ {A = ℕ} 0 1 = cc in absurd (omega arith)
-on_same (R.Bad f a) (R.Bad g b) e c x y h k = cc
+on_same (Ok v) (Ok w) e c x y h k = k
+on_same (Ok v) (Err a) e c x y h k = let z : ◌≡◌ {A = ℕ} 0 1 = cc in absurd (omega arith)
+on_same (Err a) (Ok w) e c x y h k = let z : ◌≡◌ {A = ℕ} 0 1 = cc in absurd (omega arith)
+on_same (Err a) (Err b) e c x y h k = cc
 
 module _ (want : ℕ → Bool) (answer : ℕ → Reading) where
   -- the walk goes on past e, or stops there
@@ -83,7 +83,7 @@ module _ (want : ℕ → Bool) (answer : ℕ → Reading) where
       hands : (j k : ℕ) → Passed j → LeavesCount (j + 1) k → LeavesCount j (suc k)
       hands j k good past c = rw suc-add (
           ⊎_elim
-          (λ w. rw w (on_same (answer j) (R.Value 0) j c _ _ (good w) (past (c + 1)) ∙ ap (λ (x : ℕ). walk answer x rest) (omega arith)))
+          (λ w. rw w (on_same (answer j) (Ok 0) j c _ _ (good w) (past (c + 1)) ∙ ap (λ (x : ℕ). walk answer x rest) (omega arith)))
           (λ w. rw w (past c))
           (true_or_false (want j)))
 
@@ -101,4 +101,4 @@ module _ (want : ℕ → Bool) (answer : ℕ → Reading) where
       let here : i + d ≡ s.element = omega arith in
       ap (λ (k : ℕ). walk answer c (up_from want i k)) e
       ∙ walk_on c i d (suc m) (λ j p q. s.clear j p (omega arith))
-      ∙ rw (here, s.asked) (on_same (answer s.element) (R.Bad s.kind (record { 0 = s.at })) s.element _ _ _ s.trouble refl)
+      ∙ rw (here, s.asked) (on_same (answer s.element) (Err (bad_at s.kind s.at)) s.element _ _ _ s.trouble refl)

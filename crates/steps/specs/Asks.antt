@@ -1,12 +1,12 @@
 -- Which bytes the definition of a step asks memory for, and where it finds them, in its own words: `step_of` reads the bytes of its plan's elements and
 -- nothing else. Demand 3 is stated in document 01's words; the laws of proofs/Touches say that both mean the same bytes.
-use Rattle.std.specs.Prelude.{ℕ, ◌<◌, ◌≡◌, Bool, true, List, get_or}
+use Rattle.std.specs.Prelude.{ℕ, ◌<◌, ◌≡◌, Bool, true, List, Option, Some, None, get_or}
 use Rattle.ground.specs.Sizes.{bytes_of}
 use Rattle.memory.specs.Addresses.{plus_of}
 use Rattle.memory.specs.Areas.{Area, Areas, place_in}
 use Rattle.memory.specs.Bytes.{read_right}
 use Rattle.memory.specs.declared.Place.{Place}
-use Rattle.memory.specs.declared.Place.TheVariants.{Flash, Ram, Nowhere}
+use Rattle.memory.specs.declared.Place.TheVariants.{Flash, Ram}
 use Rattle.steps.specs.Benches.{Lent, Bench, areas_in, is_accepted}
 use Rattle.steps.specs.Lanes.{governing_bytes, wanted, element_at}
 use Rattle.steps.specs.Step.{Go, prepared_of}
@@ -32,10 +32,10 @@ abbrev pub number_at : Area → ℕ → ℕ
 number_at r k = get_or r.bytes k 0
 
 -- two memories agree at a place: the same is found in either's flash, or in either's RAM; where there is no byte, there is nothing to find
-abbrev pub AgreeAt : {A : Type 0} → (Area → ℕ → A) → Areas → Areas → Place → Type 0
-AgreeAt find m n (Flash k) = find m.flash k ≡ find n.flash k
-AgreeAt find m n (Ram k) = find m.ram k ≡ find n.ram k
-AgreeAt find m n Nowhere = Unit {0}
+abbrev pub AgreeAt : {A : Type 0} → (Area → ℕ → A) → Areas → Areas → Option Place → Type 0
+AgreeAt find m n (Some (Flash k)) = find m.flash k ≡ find n.flash k
+AgreeAt find m n (Some (Ram k)) = find m.ram k ≡ find n.ram k
+AgreeAt find m n None = Unit {0}
 
 -- .. and at each byte that the step of the first bench asks for
 abbrev pub Agree : {A : Type 0} → (Area → ℕ → A) → Lent → ℕ → Bench → Lent → Bench → Type 0

@@ -2,7 +2,7 @@
 use Rattle.std.specs.Prelude.{ℕ, ◌*◌, ◌/◌, ◌%◌, ◌^◌, ◌<◌, ◌≡◌, Bool, List, [], ◌∷◌, leb, eqb, length}
 use Rattle.ground.specs.Choices.{all_of}
 use Rattle.ground.specs.Lists.{EachBelow}
-use Rattle.memory.specs.Areas.{Areas, areas_of, are_areas_accepted}
+use Rattle.memory.specs.Areas.{Areas, areas_from, are_areas_accepted}
 use Rattle.memory.specs.declared.Map.{Map}
 use Rattle.steps.specs.declared.Lent as L
 use Rattle.steps.specs.declared.Settings.{Settings}
@@ -35,7 +35,7 @@ pub record Bench : Type 0 where
   pub ram : List ℕ
 
 abbrev pub areas_in : Lent → Bench → Areas
-areas_in l b = areas_of l.map l.flash l.flash_rights b.ram l.ram_rights
+areas_in l b = areas_from l.map l.flash l.flash_rights b.ram l.ram_rights
 
 -- What comes in is what its types hold: a word of 32 bits, bytes in the files, the areas and their rights, scalars of 64 bits. A list of numbers does
 -- not say so by itself. The promise of a step does, so that no law about a step has to ask its reader for it.

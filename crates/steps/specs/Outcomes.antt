@@ -1,13 +1,11 @@
 -- What a load leaves, from its plan and the answers to the elements it asks for. Memory is in sight in `answers_in` alone.
-use Rattle.std.specs.Prelude.{if◌then◌else◌, ℕ, zero, suc, ◌+◌, ◌-◌, ◌*◌, ◌/◌, ◌%◌, ◌^◌, Bool, ◌&&◌, List, [], ◌∷◌, Option, Some, None, leb, eqb, set}
+use Rattle.std.specs.Prelude.{if◌then◌else◌, ℕ, zero, suc, ◌+◌, ◌-◌, ◌*◌, ◌/◌, ◌%◌, ◌^◌, Bool, ◌&&◌, List, [], ◌∷◌, Option, Some, None, Ok, Err, leb, eqb, set}
 use Rattle.ground.specs.Lists.{listed, replaced}
 use Rattle.ground.specs.Sizes.{bytes_of}
 use Rattle.memory.specs.Addresses.{plus_of}
 use Rattle.memory.specs.Areas.{Areas}
 use Rattle.memory.specs.Bytes.{look_of}
-use Rattle.memory.specs.Elements.{reading_of}
-use Rattle.memory.specs.declared.Reading.{Reading}
-use Rattle.memory.specs.declared.Reading.TheVariants.{Value, Bad}
+use Rattle.memory.specs.Elements.{Reading, reading_of}
 use Rattle.steps.specs.Benches.{Lent, Bench, areas_in}
 use Rattle.steps.specs.Answers.{fault_number, Report, report_with}
 use Rattle.steps.specs.Terms.{scalar}
@@ -28,8 +26,8 @@ abbrev pub answers_of : Lent → Bench → Plan → ℕ → Reading
 answers_of l b p = answers_in (areas_in l b) p
 
 abbrev pub on_reading : Reading → ℕ → ℕ → Report → Report
-on_reading (Value v) e count rest = rest
-on_reading (Bad f x) e count rest = report_with (fault_number f) count e x.0
+on_reading (Ok v) e count rest = rest
+on_reading (Err x) e count rest = report_with (fault_number x.fault) count e x.at.0
 
 -- the elements asked for, one after the other, to the first fault, with a count of those before it
 abbrev pub walk : (ℕ → Reading) → ℕ → List ℕ → Report
@@ -40,8 +38,8 @@ unfoldable pub survey_of : (ℕ → Reading) → Plan → List ℕ → Report
 survey_of answer p pred = walk answer 0 (asked p pred)
 
 abbrev pub value_of : Reading → ℕ
-value_of (Value v) = v
-value_of (Bad f x) = 0
+value_of (Ok v) = v
+value_of (Err x) = 0
 
 -- a number of m bytes in a lane of n bytes: with its sign, or with zeros
 unfoldable pub extended : Bool → ℕ → ℕ → ℕ → ℕ
