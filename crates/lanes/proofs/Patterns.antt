@@ -1,6 +1,7 @@
 -- A float's bits, once over the format: which are a NaN's, and that what is shown has exactly the bits that it was made of.
 use mathlib.Core.Path.{◌≡◌, refl, sym, ◌∙◌}
 use mathlib.Core.Bool.{true, false, not}
+use Rattle.std.specs.Prelude.{Some}
 use Prim.Native.Nat.{ℕ, ◌*◌, ◌%◌, ◌<◌, ◌≤◌}
 use lib.Dec.{T}
 use lib.Ieee.{Float, Format, binary32, binary64, of_bits, to_bits, nan_bits, ones, hid, top}
@@ -10,7 +11,7 @@ use Rattle.ground.proofs.Laws.{if_cases}
 use Rattle.lanes.specs.Lanes.{float_case, float_of, bits_of}
 use Rattle.lanes.specs.declared.Shown.TheVariants.{Whole}
 
-pub case_bits : (f : Format) (x : Float) → bits_of (float_case f x) ≡ to_bits f x
+pub case_bits : (f : Format) (x : Float) → bits_of (Some (float_case f x)) ≡ to_bits f x
 unfolding bits_of
 case_bits binary32 x = refl
 case_bits binary64 x = refl
@@ -39,9 +40,9 @@ module _ (f : Format) (n : ℕ) where
   plain h = rw (no_nan h) tt
 
   -- -0.0, infinities, subnormals and NaNs too
-  pub bits_kept : n < 2 * top f → bits_of (float_of f n) ≡ n
+  pub bits_kept : n < 2 * top f → bits_of (Some (float_of f n)) ≡ n
   unfolding float_of bits_of
   bits_kept h =
-      if_cases (λ s. bits_of s ≡ n) (nan_bits f n) (Whole n) (float_case f (of_bits f n))
+      if_cases (λ s. bits_of (Some s) ≡ n) (nan_bits f n) (Whole n) (float_case f (of_bits f n))
       (λ e. refl)
       (λ e. case_bits f (of_bits f n) ∙ to_bits-of_bits f n h (rw (← nan_bits_is f n, e) tt))

@@ -1,5 +1,5 @@
 -- "What does a lane hold?" The lane window's answer, for any input whatever.
-use Rattle.std.specs.Prelude.{if◌then◌else◌, ℕ, ◌+◌, ◌*◌, ◌/◌, ◌≡◌, Bool, ◌||◌, List, [], ◌∷◌, leb, ltb, eqb, length, Float}
+use Rattle.std.specs.Prelude.{if◌then◌else◌, ℕ, ◌+◌, ◌*◌, ◌/◌, ◌≡◌, Bool, ◌||◌, List, [], ◌∷◌, leb, ltb, eqb, length, Float, Option, Some, None}
 use Rattle.std.specs.Float.{Format, binary32, binary64}
 use Rattle.std.specs.Float.Ieee.{of_bits, to_bits, nan_bits}
 use Rattle.ground.specs.Choices.{all_of}
@@ -8,7 +8,7 @@ use Rattle.steps.specs.Benches.{is_length_allowed}
 use Rattle.lanes.specs.declared.Kind.{Kind}
 use Rattle.lanes.specs.declared.Kind.TheVariants as As
 use Rattle.lanes.specs.declared.Shown.{Shown}
-use Rattle.lanes.specs.declared.Shown.TheVariants.{Single, Double, Whole, NoLane}
+use Rattle.lanes.specs.declared.Shown.TheVariants.{Single, Double, Whole}
 
 -- "whole at 8, 16, 32, 64 bits, single at 32, double at 64"
 abbrev pub width_fits : Kind → ℕ → Bool
@@ -47,21 +47,21 @@ shown_as As.Whole bits = Whole bits
 shown_as As.Single bits = float_of binary32 bits
 shown_as As.Double bits = float_of binary64 bits
 
-unfoldable pub shown_of : ℕ → List ℕ → ℕ → Kind → ℕ → ℕ → Shown
+unfoldable pub shown_of : ℕ → List ℕ → ℕ → Kind → ℕ → ℕ → Option Shown
 shown_of vl z register kind width lane =
     if lane_there vl (length z) register kind width lane
-    then shown_as kind (bytes_at z (lane_at vl register width lane) (width / 8))
-    else NoLane
+    then Some (shown_as kind (bytes_at z (lane_at vl register width lane) (width / 8)))
+    else None
 
 -- What `show` promises. Every file that can be lent is one of bytes, by its type; but in the logic it is a list of numbers, which does not say so,
 -- and "exactly the lane's bits" holds of bytes alone. So the promise hands this on, and the laws of the window ask it of nobody.
-pub record ShowPromise (vl : ℕ) (z : List ℕ) (register : ℕ) (kind : Kind) (width lane : ℕ) (r : Shown) : Type 0 where
+pub record ShowPromise (vl : ℕ) (z : List ℕ) (register : ℕ) (kind : Kind) (width lane : ℕ) (r : Option Shown) : Type 0 where
   pub came : EachBelow 256 z
   pub shown : r ≡ shown_of vl z register kind width lane
 
 -- the bits that are shown; 0 where there is no lane
-unfoldable pub bits_of : Shown → ℕ
-bits_of (Single x) = to_bits binary32 x
-bits_of (Double x) = to_bits binary64 x
-bits_of (Whole n) = n
-bits_of NoLane = 0
+unfoldable pub bits_of : Option Shown → ℕ
+bits_of (Some (Single x)) = to_bits binary32 x
+bits_of (Some (Double x)) = to_bits binary64 x
+bits_of (Some (Whole n)) = n
+bits_of None = 0

@@ -1,100 +1,117 @@
 // The lane window: what a lane of the lent vector file holds, as the operator asks for it.
 #![tactic(auto)]
 
-ghost use Rattle.std.specs.Prelude.{◌≡◌, ◌<◌, ◌^◌};
-ghost use Rattle.std.specs.Float.{binary32, binary64};
-ghost use Rattle.lanes.specs.Lanes.{width_fits, lane_there, lane_at, float_of, shown_as, ShowPromise};
+ghost use Rattle.std.specs.Prelude.{◌≡◌, true, false, MatchOption, length};
+ghost use Rattle.lanes.specs.Lanes.{width_fits, lane_there, lane_at, shown_as, ShowPromise};
 ghost use Rattle.lanes.specs.Inside.{Fitting};
 
 use steps::allowed;
 
 // How a lane is asked for.
-#[derive(Clone, Copy)]
+#[derive(Clone, Copy, Debug, PartialEq, Eq)]
 pub enum Kind {
     Whole,
     Single,
     Double,
 }
 
+impl Kind {
+    // Whether a lane of this width can be asked for so.
+    fn fits(self, width: u32) -> bool
+        ensures { result ≡ width_fits self width }
+    {
+        match self {
+            Kind::Whole => matches!(width, 8 | 16 | 32 | 64),
+            Kind::Single => width == 32,
+            Kind::Double => width == 64,
+        }
+    }
+}
+
 // What a lane holds, as asked. The language makes no float of a NaN's bits, so a NaN is a whole number with exactly its bits.
-#[derive(Clone, Copy)]
+#[derive(Clone, Copy, Debug, PartialEq)]
 pub enum Shown {
     Single(f32),
     Double(f64),
     Whole(u64),
-    NoLane,
 }
 
-// Whether a lane of this width can be asked for so.
-fn width_fits(kind: Kind, width: u32) -> bool
-    ensures { result ≡ width_fits kind width }
-{
-    match kind {
-        Kind::Whole => (width == 8) | (width == 16) | (width == 32) | (width == 64),
-        Kind::Single => width == 32,
-        Kind::Double => width == 64,
+// The sign bit of a single and of a double, and the bits of infinity, above which, whatever the sign, lie those of a NaN.
+const SIGN_32: u64 = 0x8000_0000;
+
+const INFINITY_32: u64 = 0x7f80_0000;
+
+const SIGN_64: u64 = 0x8000_0000_0000_0000;
+
+const INFINITY_64: u64 = 0x7ff0_0000_0000_0000;
+
+// A lane that is asked for: any vector length, register, width and number.
+#[derive(Clone, Copy)]
+struct Asked {
+    vl: u64,
+    register: u32,
+    kind: Kind,
+    width: u32,
+    lane: u64,
+}
+
+impl Asked {
+    // Whether a file has the lane. The first two tests come first because without them a product may wrap and a width be 0.
+    #[tactic(auto, unfolding(crate::specs::Lanes::lane_there))]
+    fn is_there(self, z: &[u8]) -> bool
+        ensures { result ≡ lane_there self.vl (length z.now) self.register self.kind self.width self.lane }
+    {
+        allowed(self.vl)
+            && self.kind.fits(self.width)
+            && z.len() as u64 == 32 * (self.vl / 8)
+            && self.register <= 31
+            && self.lane < self.vl / u64::from(self.width)
     }
-}
 
-// Whether a file of n bytes has the lane. The first two tests come first because without them a product may wrap and a width be 0.
-fn lane_there(vl: u64, n: usize, register: u32, kind: Kind, width: u32, lane: u64) -> bool
-    ensures { result ≡ lane_there vl n register kind width lane }
-{
-    if allowed(vl) & width_fits(kind, width) {
-        return (n as u64 == 32 * (vl / 8)) & (register <= 31) & (lane < vl / (width as u64));
+    // Where the lane starts in a file that has it: register 0 comes first, and in a register lane 0.
+    #[tactic(auto, using(crate::proofs::Places::reached))]
+    fn place(self, z: &[u8]) -> Option<usize>
+        ensures { MatchOption result
+            (lane_there self.vl (length z.now) self.register self.kind self.width self.lane ≡ false)
+            (λ at. (lane_there self.vl (length z.now) self.register self.kind self.width self.lane ≡ true)
+            × (at ≡ lane_at self.vl self.register self.width self.lane)) }
+    {
+        if !self.is_there(z) {
+            return None;
+        }
+        Some(
+            (u64::from(self.register) * (self.vl / 8)
+                + self.lane * u64::from(self.width / 8)) as usize,
+        )
     }
-    false
-}
 
-// Where the lane starts in the file: register 0 comes first, and in a register lane 0.
-fn place(vl: u64, register: u32, width: u32, lane: u64) -> u64
-    requires { lane_at vl register width lane < 2 ^ 64 }
-    ensures { result ≡ lane_at vl register width lane }
-{
-    (register as u64) * (vl / 8) + lane * ((width / 8) as u64)
-}
-
-// The float of 32 bits. Above the bits of infinity, whatever the sign, lie those of a NaN.
-fn single(bits: u32) -> Shown
-    ensures { result ≡ float_of binary32 bits }
-{
-    if 0x7f80_0000 < bits % 0x8000_0000 {
-        Shown::Whole(bits as u64)
-    } else {
-        Shown::Single(f32::from_bits(bits))
-    }
-}
-
-// The float of 64 bits, as `single` makes that of 32.
-fn double(bits: u64) -> Shown
-    ensures { result ≡ float_of binary64 bits }
-{
-    if 0x7ff0_0000_0000_0000 < bits % 0x8000_0000_0000_0000 {
-        Shown::Whole(bits)
-    } else {
-        Shown::Double(f64::from_bits(bits))
-    }
-}
-
-// The bits of a lane, as asked. A single's width is 32, so that no bit of it is lost.
-fn as_asked(kind: Kind, width: u32, bits: u64) -> Shown
-    requires { Fitting kind width bits }
-    ensures { result ≡ shown_as kind bits }
-{
-    match kind {
-        Kind::Whole => Shown::Whole(bits),
-        Kind::Single => single(bits as u32),
-        Kind::Double => double(bits),
+    // The lane's bits, as asked.
+    fn shown(self, bits: u64) -> Shown
+        requires { Fitting self.kind self.width bits }
+        ensures { result ≡ shown_as self.kind bits }
+    {
+        match self.kind {
+            Kind::Single if bits % SIGN_32 <= INFINITY_32 => {
+                Shown::Single(f32::from_bits(bits as u32))
+            }
+            Kind::Double if bits % SIGN_64 <= INFINITY_64 => Shown::Double(f64::from_bits(bits)),
+            _ => Shown::Whole(bits),
+        }
     }
 }
 
 // What does a lane hold? Any file, register, width and lane may be asked for.
-pub fn show(vl: u64, z: &[u8], register: u32, kind: Kind, width: u32, lane: u64) -> Shown
+pub fn show(vl: u64, z: &[u8], register: u32, kind: Kind, width: u32, lane: u64) -> Option<Shown>
     ensures { ShowPromise vl z.now register kind width lane result }
 {
-    if lane_there(vl, z.len(), register, kind, width, lane) {
-        let at = place(vl, register, width, lane) as usize;
-        return as_asked(kind, width, ground::number(z, at, (width / 8) as usize));
-    }
-    Shown::NoLane
+    let asked = Asked {
+        vl,
+        register,
+        kind,
+        width,
+        lane,
+    };
+    let at = asked.place(z)?;
+    let bits = ground::number(z, at, width as usize / 8);
+    Some(asked.shown(bits))
 }
