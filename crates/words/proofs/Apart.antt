@@ -16,7 +16,7 @@ use Rattle.ground.specs.Pieces.{bits}
 use Rattle.ground.proofs.Laws.{never, off, or_cases, and_left, and_right, and_both, all_of_lem, all, any_at}
 use Rattle.ground.proofs.Pieces.{halves}
 use Rattle.words.specs.Families.{Fixed, bits_are, tests, fits, FamilyRow, ◌⇨◌, families, read_by, read_of}
-use Rattle.words.specs.Insns.{Err, Decoded, Outside, Undefined}
+use Rattle.words.specs.Insns.{Err, Outside, Undefined}
 
 -- ---- Two rows that fix a bit to different values
 
@@ -169,10 +169,6 @@ one_row w j k p q = one_place w families families_apart j k p q
 pub row_reads : (w k : ℕ) → k < length families → fits w (row_at families k).bits ≡ true → read_of w ≡ (row_at families k).means w
 unfolding read_of
 row_reads w k l t = place_reads w families families_apart k (record { there = l; fitting = t })
-
--- .. so that a result that is what the row says is what the word is
-pub row_is : (k w : ℕ) {d : Decoded} → k < length families → fits w (row_at families k).bits ≡ true → d ≡ (row_at families k).means w → d ≡ read_of w
-row_is k w l t e = e ∙ sym (row_reads w k l t)
 
 -- a word with bits that every row fixes otherwise is outside
 pub clashing_outside : (fs : List Fixed) → all (clash (fs ⇨ (λ w. Err Outside))) families ≡ true → (w : ℕ) → fits w fs ≡ true → read_of w ≡ Err Outside

@@ -1,9 +1,7 @@
 // Which word is which load: the family table of the scope of work.
-// A field word<hi:lo> is written word / 2^lo % 2^(hi - lo + 1), also where lo is 0, so that code and definition read alike.
-// 2^lo is written in hexadecimal, with its bit at its place in the word.
 #![tactic(auto)]
 
-ghost use Rattle.std.specs.Prelude.{◌≡◌, true, false, Ok};
+ghost use Rattle.std.specs.Prelude.{◌≡◌, ◌+◌, ◌≤◌, ◌<◌, true, false, Ok};
 ghost use Rattle.words.specs.Dtypes.{plain_of, DtypePromise};
 ghost use Rattle.words.specs.Families.{replicate_of, sve_of, by_element_of, contiguous_of, block_of, scalar_of, read_of, ReadPromise};
 ghost use Rattle.ground.specs.Pieces.{bits};
@@ -58,17 +56,14 @@ pub enum NotALoad {
 impl Dtype {
     // The row that a field of four bits names, by the table's own rule: the upper two bits name the memory size and the lower two the lane
     // size; where the upper ones are more, the sizes are 3 - upper and 3 - lower, and the sign is extended. A field over 15 is read as 15.
+    #[tactic(auto, using(crate::proofs::DtypeRule::dtype_rule, crate::proofs::DtypeRule::dtype_past))]
     pub fn of(field: u32) -> Dtype
         ensures { DtypePromise field result }
     {
         let high = field / 4;
         let low = field % 4;
         if 3 < high {
-            return Dtype {
-                memory: Size::B64,
-                lane: Size::B64,
-                signed: false,
-            };
+            return Dtype::plain(Size::B64);
         }
         if high <= low {
             return Dtype {
@@ -83,34 +78,42 @@ impl Dtype {
             signed: true,
         }
     }
+
+    // An element of one size, in memory as in its lane.
+    fn plain(size: Size) -> Dtype
+        ensures { result ≡ plain_of size }
+    {
+        Dtype {
+            memory: size,
+            lane: size,
+            signed: false,
+        }
+    }
 }
 
-// An element of one size, in memory as in its lane.
-fn plain(size: Size) -> Dtype
-    ensures { result ≡ plain_of size }
+// Bits hi to lo of a word, as Arm writes word<hi:lo>.
+fn bits(word: u32, hi: u32, lo: u32) -> u32
+    requires { (lo ≤ hi) × (hi < lo + 31) × (lo < 32) }
+    ensures { result ≡ bits word hi lo }
 {
-    Dtype {
-        memory: size,
-        lane: size,
-        signed: false,
-    }
+    (word >> lo) % (1 << (hi - lo + 1))
 }
 
 // LD1R to LD4R: L=0 or S=1 is undefined. No predicate governs them. The last bit of the opcode, then R, count the registers.
 fn replicate(word: u32, back: Option<u32>) -> Result<Insn, NotALoad>
     ensures { result ≡ replicate_of back word }
 {
-    if (word / 0x0040_0000 % 2 == 0) | (word / 0x0000_1000 % 2 == 1) {
+    if bits(word, 22, 22) == 0 || bits(word, 12, 12) == 1 {
         return Err(NotALoad::Undefined);
     }
     Ok(Insn {
-        element: plain(Size::of(word / 0x0000_0400 % 4)),
-        base: word / 0x0000_0020 % 32,
-        target: word / 1 % 32,
-        registers: word / 0x0000_2000 % 2 * 2 + word / 0x0020_0000 % 2 + 1,
+        element: Dtype::plain(Size::of(bits(word, 11, 10))),
+        base: bits(word, 9, 5),
+        target: bits(word, 4, 0),
+        registers: bits(word, 13, 13) * 2 + bits(word, 21, 21) + 1,
         governing: None,
         shape: Shape::Replicate {
-            q: word / 0x4000_0000 % 2 == 1,
+            q: bits(word, 30, 30) == 1,
             back,
         },
     })
@@ -122,10 +125,10 @@ fn sve(word: u32, element: Dtype, shape: Shape) -> Insn
 {
     Insn {
         element,
-        base: word / 0x0000_0020 % 32,
-        target: word / 1 % 32,
+        base: bits(word, 9, 5),
+        target: bits(word, 4, 0),
         registers: 1,
-        governing: Some(word / 0x0000_0400 % 8),
+        governing: Some(bits(word, 12, 10)),
         shape,
     }
 }
@@ -133,12 +136,12 @@ fn sve(word: u32, element: Dtype, shape: Shape) -> Insn
 fn by_element(word: u32) -> Insn
     ensures { result ≡ by_element_of word }
 {
-    let element = Dtype::of(word / 0x0080_0000 % 4 * 4 + word / 0x0000_2000 % 4);
+    let element = Dtype::of(bits(word, 24, 23) * 4 + bits(word, 14, 13));
     sve(
         word,
         element,
         Shape::ByElement {
-            imm6: word / 0x0001_0000 % 64,
+            imm6: bits(word, 21, 16),
         },
     )
 }
@@ -148,7 +151,7 @@ fn contiguous(word: u32, offset: Offset) -> Insn
 {
     sve(
         word,
-        Dtype::of(word / 0x0020_0000 % 16),
+        Dtype::of(bits(word, 24, 21)),
         Shape::Contiguous { offset },
     )
 }
@@ -156,66 +159,54 @@ fn contiguous(word: u32, offset: Offset) -> Insn
 fn block(wide: bool, word: u32, offset: Offset) -> Insn
     ensures { result ≡ block_of wide offset word }
 {
-    let element = plain(Size::of(word / 0x0080_0000 % 4));
+    let element = Dtype::plain(Size::of(bits(word, 24, 23)));
     sve(word, element, Shape::Block { wide, offset })
 }
 
 // An SVE scalar form of a load: Rm = 31 is undefined.
+#[tactic(auto, unfolding(crate::specs::Families::scalar_of))]
 fn scalar(word: u32, load: Insn) -> Result<Insn, NotALoad>
     ensures { result ≡ scalar_of word load }
 {
-    if word / 0x0001_0000 % 32 == 31 {
+    if bits(word, 20, 16) == 31 {
         return Err(NotALoad::Undefined);
     }
     Ok(load)
 }
 
 // The rows of LD1R to LD4R: bit 31 is 0 in these, and 1 in every other.
+#[tactic(auto, unfolding(crate::specs::Families::read_of, crate::specs::Families::families))]
 fn replicate_rows(word: u32) -> Result<Insn, NotALoad>
     requires { bits word 31 31 ≡ 0 }
     ensures { result ≡ read_of word }
 {
-    let bits_29_23 = word / 0x0080_0000 % 128;
-    if (bits_29_23 == 0b0011010) & (word / 0x0000_4000 % 128 == 0b0000011) {
-        return replicate(word, None);
+    match bits(word, 29, 23) {
+        0b0011010 if bits(word, 20, 14) == 0b0000011 => replicate(word, None),
+        0b0011011 if bits(word, 15, 14) == 0b11 => replicate(word, Some(bits(word, 20, 16))),
+        _ => Err(NotALoad::Outside),
     }
-    if (bits_29_23 == 0b0011011) & (word / 0x0000_4000 % 4 == 0b11) {
-        return replicate(word, Some(word / 0x0001_0000 % 32));
-    }
-    Err(NotALoad::Outside)
 }
 
 // The family table, row by row.
+#[tactic(auto, unfolding(crate::specs::Families::read_of, crate::specs::Families::families))]
 pub fn read(word: u32) -> Result<Insn, NotALoad>
     ensures { ReadPromise word result }
 {
-    if word / 0x8000_0000 % 2 == 0 {
+    if bits(word, 31, 31) == 0 {
         return replicate_rows(word);
     }
-    let top = word / 0x0200_0000 % 128;
-    let op = word / 0x0000_2000 % 8;
-    let imm = Offset::Imm(word / 0x0001_0000 % 16);
-    let reg = Offset::Reg(word / 0x0001_0000 % 32);
-    if (top == 0b1000010) & (word / 0x0040_0000 % 2 == 0b1) & (word / 0x0000_8000 % 2 == 0b1) {
-        return Ok(by_element(word));
+    let imm = Offset::Imm(bits(word, 19, 16));
+    let reg = Offset::Reg(bits(word, 20, 16));
+    match (bits(word, 31, 25), bits(word, 15, 13)) {
+        (0b1000010, _) if bits(word, 22, 22) == 0b1 && bits(word, 15, 15) == 0b1 => {
+            Ok(by_element(word))
+        }
+        (0b1010010, 0b101) if bits(word, 20, 20) == 0b0 => Ok(contiguous(word, imm)),
+        (0b1010010, 0b010) => scalar(word, contiguous(word, reg)),
+        (0b1010010, 0b001) if bits(word, 22, 20) == 0b000 => Ok(block(false, word, imm)),
+        (0b1010010, 0b000) if bits(word, 22, 21) == 0b00 => scalar(word, block(false, word, reg)),
+        (0b1010010, 0b001) if bits(word, 22, 20) == 0b010 => Ok(block(true, word, imm)),
+        (0b1010010, 0b000) if bits(word, 22, 21) == 0b01 => scalar(word, block(true, word, reg)),
+        _ => Err(NotALoad::Outside),
     }
-    if (top == 0b1010010) & (word / 0x0010_0000 % 2 == 0b0) & (op == 0b101) {
-        return Ok(contiguous(word, imm));
-    }
-    if (top == 0b1010010) & (op == 0b010) {
-        return scalar(word, contiguous(word, reg));
-    }
-    if (top == 0b1010010) & (word / 0x0010_0000 % 8 == 0b000) & (op == 0b001) {
-        return Ok(block(false, word, imm));
-    }
-    if (top == 0b1010010) & (word / 0x0020_0000 % 4 == 0b00) & (op == 0b000) {
-        return scalar(word, block(false, word, reg));
-    }
-    if (top == 0b1010010) & (word / 0x0010_0000 % 8 == 0b010) & (op == 0b001) {
-        return Ok(block(true, word, imm));
-    }
-    if (top == 0b1010010) & (word / 0x0020_0000 % 4 == 0b01) & (op == 0b000) {
-        return scalar(word, block(true, word, reg));
-    }
-    Err(NotALoad::Outside)
 }
