@@ -1,6 +1,6 @@
 -- Pairs of benches that demand 3 speaks of and that are not the same: they differ where no active element lies. Its premise is met, by computation, and what
 -- it promises is seen twice: computed from the definition of a step, and as the theorem says.
-use Rattle.std.proofs.Common.{◌≡◌, ℕ, ◌-◌, ◌/◌, Bool, true, false, not, ◌&&◌, eqb, List, [], ◌∷◌, ◌++◌, length, sym, refl, ap, ◌∙◌, ⊎_elim, eq-eqb, eqb-true}
+use Rattle.std.proofs.Common.{◌≡◌, ℕ, ◌-◌, ◌/◌, Bool, true, false, not, ◌&&◌, eqb, List, [], ◌∷◌, ◌++◌, Option, Some, None, length, sym, refl, ap, ◌∙◌, ⊎_elim, eq-eqb, eqb-true}
 use borrow.Author.Tests.{not-true}
 use Rattle.ground.specs.Choices.{all_of}
 use Rattle.ground.specs.Lists.{any_below, alike, replaced}
@@ -13,7 +13,7 @@ use Rattle.memory.specs.Areas.{Area, Areas, is_area_accepted, share_none, are_ar
 use Rattle.memory.specs.Bytes.{judged, look_of}
 use Rattle.memory.specs.Elements.{reading_of}
 use Rattle.memory.specs.declared.Place.{Place}
-use Rattle.memory.specs.declared.Place.TheVariants.{Flash, Ram, Nowhere}
+use Rattle.memory.specs.declared.Place.TheVariants.{Flash, Ram}
 use Rattle.steps.specs.Answers.{report_of}
 use Rattle.steps.specs.Benches.{Lent, Bench, InTypes, areas_in, is_accepted}
 use Rattle.steps.specs.Terms.{signed4}
@@ -61,10 +61,10 @@ abbrev other : Pair → Bench
 other p = bench_with (before p) p.ram
 
 -- two memories agree at a place, as a test
-abbrev finds_same : {A : Type 0} → (A → A → Bool) → (Area → ℕ → A) → Areas → Areas → Place → Bool
-finds_same same find m n (Flash k) = same (find m.flash k) (find n.flash k)
-finds_same same find m n (Ram k) = same (find m.ram k) (find n.ram k)
-finds_same same find m n Nowhere = true
+abbrev finds_same : {A : Type 0} → (A → A → Bool) → (Area → ℕ → A) → Areas → Areas → Option Place → Bool
+finds_same same find m n (Some (Flash k)) = same (find m.flash k) (find n.flash k)
+finds_same same find m n (Some (Ram k)) = same (find m.ram k) (find n.ram k)
+finds_same same find m n None = true
 
 -- each byte that is asked for passes a test: there is none that fails it
 abbrev fails_in : (ℕ → Bool) → Lent → Prepared → Bool
@@ -147,15 +147,15 @@ module _ (test : ℕ → Bool) (l : Lent) (w : ℕ) (b : Bench) where
       (true_or_false (test a))
 
 module _ {A : Type 0} (same : A → A → Bool) (sound : Sound same) (find : Area → ℕ → A) where
-  agree_at : (m n : Areas) (p : Place) → finds_same same find m n p ≡ true → AgreeAt find m n p
-  agree_at m n (Flash k) h = sound.0 _ _ h
-  agree_at m n (Ram k) h = sound.0 _ _ h
-  agree_at m n Nowhere h = tt
+  agree_at : (m n : Areas) (p : Option Place) → finds_same same find m n p ≡ true → AgreeAt find m n p
+  agree_at m n (Some (Flash k)) h = sound.0 _ _ h
+  agree_at m n (Some (Ram k)) h = sound.0 _ _ h
+  agree_at m n None h = tt
 
-  same_self : (m : Areas) (p : Place) → finds_same same find m m p ≡ true
-  same_self m (Flash k) = sound.1 _
-  same_self m (Ram k) = sound.1 _
-  same_self m Nowhere = refl
+  same_self : (m : Areas) (p : Option Place) → finds_same same find m m p ≡ true
+  same_self m (Some (Flash k)) = sound.1 _
+  same_self m (Some (Ram k)) = sound.1 _
+  same_self m None = refl
 
   agreed : (p : Pair) → same_asked same find p ≡ true → Agree find (first p) p.word (before p) (second p) (other p)
   agreed p h a q =

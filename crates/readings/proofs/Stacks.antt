@@ -7,7 +7,7 @@ use Rattle.words.specs.Dtypes.{dtypes, dtype_of}
 use Rattle.words.specs.Families.{scalar_of, families, read_of}
 use Rattle.words.proofs.Decodes.{insn_means}
 use Rattle.memory.specs.Areas.{is_area_accepted, share_none, are_areas_accepted}
-use Rattle.steps.specs.Insns.{Insn, Replicate, Block, None, By, Imm, Keep, Is}
+use Rattle.steps.specs.Insns.{Insn, Replicate, Block, Imm, Some, None, Ok}
 use Rattle.steps.specs.Answers.{Report, report_with, report_of}
 use Rattle.steps.specs.Benches.{Lent, Bench, is_accepted}
 use Rattle.steps.specs.Terms.{scalar}
@@ -22,10 +22,10 @@ use Rattle.readings.proofs.Cases.{only, ◌≔◌, sp, empty, page, all_on, SetU
 -- both loads
 abbrev ld1rqd : Insn
 ld1rqd =
-    record { element = record { memory = B64; lane = B64; signed = false }; base = 31; target = 0; registers = 1; governing = By 0; shape = Block false (Imm 0) }
+    record { element = record { memory = B64; lane = B64; signed = false }; base = 31; target = 0; registers = 1; governing = Some 0; shape = Block false (Imm 0) }
 
 abbrev ld1r : Insn
-ld1r = record { element = record { memory = B8; lane = B8; signed = false }; base = 31; target = 0; registers = 1; governing = None; shape = Replicate 1 Keep }
+ld1r = record { element = record { memory = B8; lane = B8; signed = false }; base = 31; target = 0; registers = 1; governing = None; shape = Replicate true None }
 
 -- a bench of VL 256: P0, a byte for each lane of 64 bits, and SP
 abbrev pub stack_bench : List ℕ → ℕ → SetUp
@@ -41,7 +41,7 @@ none = 0xFE ∷ 0xFE ∷ 0xFE ∷ 0xFE ∷ []
 abbrev pub own : List ℕ
 own = 1 ∷ 0 ∷ 0 ∷ 0 ∷ []
 
-defined : (w : ℕ) (i : Insn) (u : SetUp) → w < 2 ^ 32 → read_of w ≡ Is i → is_accepted (lent_by u) (bench_by u) ≡ true → u.settings ≡ all_on 256
+defined : (w : ℕ) (i : Insn) (u : SetUp) → w < 2 ^ 32 → read_of w ≡ Ok i → is_accepted (lent_by u) (bench_by u) ≡ true → u.settings ≡ all_on 256
     → On (lent_by u) i → Defined (lent_by u) w (bench_by u) i
 defined w i u small reads taken settings on =
     record {

@@ -15,17 +15,15 @@ use Rattle.words.specs.Families.{scalar_of, families, read_of}
 use Rattle.memory.specs.Addresses.{wrapℤ, plus_of, moved_of}
 use Rattle.memory.specs.Areas.{is_area_accepted, share_none, are_areas_accepted, covers, place_of}
 use Rattle.memory.specs.Bytes.{judged, look_of}
-use Rattle.memory.specs.Elements.{reading_of}
-use Rattle.memory.specs.declared.Reading.{Reading}
-use Rattle.memory.specs.declared.Reading.TheVariants.{Value}
-use Rattle.steps.specs.Insns.{Insn, Shape, Replicate, ByElement, Contiguous, Block, None, By, Offset, Imm, Reg, Back, Keep, Post, Is}
+use Rattle.memory.specs.Elements.{Reading, reading_of}
+use Rattle.steps.specs.Insns.{Insn, Shape, Replicate, ByElement, Contiguous, Block, Offset, Imm, Reg, Option, Some, None, Ok}
 use Rattle.steps.specs.Benches.{Lent, Bench, InTypes, is_accepted}
 use Rattle.steps.specs.Terms.{scalar, signed4}
 use Rattle.steps.specs.Plans.{spread_of, plan_of}
 use Rattle.steps.specs.Lanes.{governing_bytes, bit_of, is_active, wanted, asked, lane_takes, checks_stack, element_at}
 use Rattle.steps.specs.Outcomes.{Outcome, answers_in, survey_of, outcome_of}
 use Rattle.steps.specs.Step.{stack_fails, refusals, planned_load, planned_of, prepared_of, step_of, StepPromise}
-use Rattle.steps.specs.Said.{lane_bytes, N, K, copies, LaneActive, Active, lies}
+use Rattle.steps.specs.Said.{lane_bytes, N, Q, K, copies, LaneActive, Active, lies}
 use Rattle.steps.specs.Answers.{Report}
 use Rattle.steps.specs.Demand1 as G
 use Rattle.steps.specs.Demand1.{Ready, AllReadable, Counted, element_limit}
@@ -55,7 +53,7 @@ Premise inactive l i k = (o : Offset) × (i.shape ≡ Contiguous o) × (LaneActi
 Premise element_inactive l i k = (imm6 : ℕ) × (i.shape ≡ ByElement imm6) × (LaneActive l i k → ⊥)
 Premise block_inactive l i k = (wide : Bool) × (o : Offset) × (i.shape ≡ Block wide o) × (LaneActive l i (k % K wide i) → ⊥)
 Premise left_over l i k = (wide : Bool) × (o : Offset) × (i.shape ≡ Block wide o) × (copies l wide ≤ k / K wide i)
-Premise rest l i k = (q : ℕ) × (back : Back) × (i.shape ≡ Replicate q back) × (8 * 2 ^ q ≤ k * lane_bytes i)
+Premise rest l i k = (q : Bool) × (back : Option ℕ) × (i.shape ≡ Replicate q back) × (8 * 2 ^ Q q ≤ k * lane_bytes i)
 
 pub record Witness : Type 0 where
   pub law : Law
@@ -83,7 +81,7 @@ tests t =
     ∷ ltb t.lane (N (lent_by t.set_up) t.load)
     ∷ []
 
-met : (t : Witness) → read_of t.word ≡ Is t.load → all_of (tests t) ≡ true → Premise t.law (lent_by t.set_up) t.load t.lane → Met t
+met : (t : Witness) → read_of t.word ≡ Ok t.load → all_of (tests t) ≡ true → Premise t.law (lent_by t.set_up) t.load t.lane → Met t
 met t reads h premise =
     let c = all_of_lem (tests t) h in
     let came = in_types (lent_by t.set_up) t.word (bench_by t.set_up) (c 0) in
@@ -92,7 +90,7 @@ met t reads h premise =
 
 -- a load of doublewords into lanes of 64 bits by X0 to Z0, governed by P0; and LD1R to LD4R of bytes, by the number of registers
 abbrev doubles : Shape → Insn
-doubles s = record { element = record { memory = B64; lane = B64; signed = false }; base = 0; target = 0; registers = 1; governing = By 0; shape = s }
+doubles s = record { element = record { memory = B64; lane = B64; signed = false }; base = 0; target = 0; registers = 1; governing = Some 0; shape = s }
 
 abbrev bytes : ℕ → Shape → Insn
 bytes n s = record { element = record { memory = B8; lane = B8; signed = false }; base = 0; target = 0; registers = n; governing = None; shape = s }
@@ -111,11 +109,11 @@ row = row_of 0
 abbrev pub table : List Witness
 table =
     -- LD1R {V0.16B}, [X0] and LD1R {V0.8B}, [X0], #1
-    row rest 0x4D40C000 (bytes 1 (Replicate 1 Keep)) 256 16
-    ∷ row rest 0x0DDFC000 (bytes 1 (Replicate 0 (Post 31))) 128 8
+    row rest 0x4D40C000 (bytes 1 (Replicate true None)) 256 16
+    ∷ row rest 0x0DDFC000 (bytes 1 (Replicate false (Some 31))) 128 8
     -- LD2R {V0.16B, V1.16B}, [X0], its second register, and LD4R {V0.8B-V3.8B}, [X0], #4, its last
-    ∷ row_of 1 rest 0x4D60C000 (bytes 2 (Replicate 1 Keep)) 256 16
-    ∷ row_of 3 rest 0x0DFFE000 (bytes 4 (Replicate 0 (Post 31))) 128 8
+    ∷ row_of 1 rest 0x4D60C000 (bytes 2 (Replicate true None)) 256 16
+    ∷ row_of 3 rest 0x0DFFE000 (bytes 4 (Replicate false (Some 31))) 128 8
     -- LD1RD {Z0.D}, P0/Z, [X0]
     ∷ row element_inactive 0x85C0E000 (doubles (ByElement 0)) 128 1
     -- LD1D {Z0.D}, P0/Z, [X0] and [X0, X1, LSL #3]
@@ -139,10 +137,10 @@ unfolding size_of dtypes dtype_of scalar_of families read_of moved_of is_area_ac
     is_accepted signed4 spread_of governing_bytes bit_of is_active wanted asked lane_takes element_at answers_in survey_of outcome_of checks_stack stack_fails
     refusals planned_load planned_of prepared_of step_of
 witnesses =
-    met _ refl refl (1, Keep, refl, omega arith)
-    & met _ refl refl (0, Post 31, refl, omega arith)
-    & met _ refl refl (1, Keep, refl, omega arith)
-    & met _ refl refl (0, Post 31, refl, omega arith)
+    met _ refl refl (true, None, refl, omega arith)
+    & met _ refl refl (false, Some 31, refl, omega arith)
+    & met _ refl refl (true, None, refl, omega arith)
+    & met _ refl refl (false, Some 31, refl, omega arith)
     & met _ refl refl (0, refl, clear)
     & met _ refl refl (Imm 0, refl, clear)
     & met _ refl refl (Reg 1, refl, clear)
@@ -225,13 +223,13 @@ abbrev Lies : Lent → List ℕ → Insn → ℕ → Type 0
 Lies l x i n = element_at (plan_of l.settings.vl x i) n ≡ wrapℤ (lies l x i n)
 
 pub formulas_used : (l : Lent) (x : List ℕ) (e : ℕ)
-    → Lies l x (bytes 1 (Replicate 1 Keep)) 0 × Lies l x (bytes 4 (Replicate 0 (Post 31))) e × Lies l x (doubles (ByElement 0)) 0
+    → Lies l x (bytes 1 (Replicate true None)) 0 × Lies l x (bytes 4 (Replicate false (Some 31))) e × Lies l x (doubles (ByElement 0)) 0
     × Lies l x (doubles (Contiguous (Imm 0))) e × Lies l x (doubles (Contiguous (Reg 1))) e
     × Lies l x (doubles (Block false (Imm 0))) e × Lies l x (doubles (Block true (Imm 0))) e
     × Lies l x (doubles (Block false (Reg 1))) e × Lies l x (doubles (Block true (Reg 1))) e
 formulas_used l x e = (
-  replicated l x (bytes 1 (Replicate 1 Keep)) 1 Keep refl 0,
-  replicated l x (bytes 4 (Replicate 0 (Post 31))) 0 (Post 31) refl e ∙ ap (plus_of (scalar x 0)) (offs_sum (bytes 4 (Replicate 0 (Post 31))) e),
+  replicated l x (bytes 1 (Replicate true None)) true None refl 0,
+  replicated l x (bytes 4 (Replicate false (Some 31))) false (Some 31) refl e ∙ ap (plus_of (scalar x 0)) (offs_sum (bytes 4 (Replicate false (Some 31))) e),
   ld1r_by_element l x (doubles (ByElement 0)) 0 refl,
   ld1_immediate l x (doubles (Contiguous (Imm 0))) 0 refl e,
   ld1_scalar l x (doubles (Contiguous (Reg 1))) 1 refl e,
@@ -247,14 +245,14 @@ abbrev lane_plan : Plan
 lane_plan = plan_of 128 (bench_by (lane0 128)).scalars (doubles (Contiguous (Imm 0)))
 
 abbrev zeros : ℕ → Reading
-zeros e = Value 0
+zeros e = Ok 0
 
 abbrev ones : ℕ → Reading
-ones e = Value 1
+ones e = Ok 1
 
 abbrev mixed : ℕ → Reading
-mixed zero = Value 0
-mixed (suc e) = Value 1
+mixed zero = Ok 0
+mixed (suc e) = Ok 1
 
 pub faults_met : let pred = governing_bytes (lent_by (lane0 128)) lane_plan in survey_of zeros lane_plan pred ≡ survey_of ones lane_plan pred
 faults_met = demand_3_faults zeros ones lane_plan (governing_bytes (lent_by (lane0 128)) lane_plan) (λ e h t. refl)
