@@ -1,5 +1,6 @@
 -- Demand 1: any input, each answer exactly when document 01 says, and any answer but 0 changes nothing; the stack rule by itself.
 use Prim.Native.Nat.{◌%◌, ◌*◌, ◌<◌, ◌^◌, ◌≤◌, ℕ}
+use Rattle.std.specs.Prelude.{None, Some}
 use Rattle.steps.specs.Answers.{Report, number_of, report_of, report_with}
 use Rattle.steps.specs.Benches.{Bench, Lent}
 use Rattle.steps.specs.Demand1.{Counted, Defined, Given, Ready}
@@ -7,7 +8,6 @@ use Rattle.steps.specs.Said.{Active, LaneActive, lane_bytes}
 use Rattle.steps.specs.Step.{StepPromise, step_of}
 use Rattle.steps.specs.Terms.{scalar}
 use Rattle.steps.specs.declared.StepResult.{StepResult}
-use Rattle.words.specs.declared.Governing.TheVariants.{By, None}
 use Rattle.words.specs.declared.Insn.{Insn}
 use mathlib.Core.Logic.{◌↔◌}
 use mathlib.Core.Path.{◌≡◌}
@@ -43,13 +43,13 @@ demand_1_count = Rattle.steps.proofs.Demand1.demand_1_count
 -- and for nothing else.
 pub stack_only : (l : Lent) (w : ℕ) (b : Bench) (r : StepResult) (l₁ : Lent) (b₁ : Bench) → StepPromise l w b r l₁ b₁ → number_of r.answer ≡ 5
     → (i : Insn) × Defined l w b i × (i.base ≡ 31) × (scalar b.scalars 31 % 16 ≡ 0 → ⊥)
-    × ((g : ℕ) → i.governing ≡ By g → (e : ℕ) × (e * (8 * lane_bytes i) < l.settings.vl) × LaneActive l i e)
+    × ((g : ℕ) → i.governing ≡ Some g → (e : ℕ) × (e * (8 * lane_bytes i) < l.settings.vl) × LaneActive l i e)
 stack_only = Rattle.steps.proofs.Stacks.stack_only
 
 -- Such a load, SP its base and no multiple of 16, governed by a predicate: 5 if a lane is active anywhere in VL, one of the block or not; and if
 -- none is, it runs, and reads nothing.
 pub stack_anywhere : (l : Lent) (w : ℕ) (b : Bench) (r : StepResult) (l₁ : Lent) (b₁ : Bench) (p : StepPromise l w b r l₁ b₁) (i : Insn)
-    (d : Defined l w b i) (sp : i.base ≡ 31) (askew : scalar b.scalars 31 % 16 ≡ 0 → ⊥) → (g : ℕ) → i.governing ≡ By g
+    (d : Defined l w b i) (sp : i.base ≡ 31) (askew : scalar b.scalars 31 % 16 ≡ 0 → ⊥) → (g : ℕ) → i.governing ≡ Some g
     → ((e : ℕ) → e * (8 * lane_bytes i) < l.settings.vl → LaneActive l i e → report_of r ≡ report_with 5 0 0 0)
     × (((e : ℕ) → e * (8 * lane_bytes i) < l.settings.vl → LaneActive l i e → ⊥) → report_of r ≡ report_with 0 0 0 0)
 stack_anywhere = Rattle.steps.proofs.Stacks.stack_anywhere

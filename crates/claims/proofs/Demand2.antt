@@ -1,5 +1,6 @@
 -- Demand 2: a step does what Arm's pages say. Which words decode is in Words.
 use Prim.Native.Nat.{◌%◌, ◌*◌, ◌+◌, ◌/◌, ◌<◌, ◌^◌, ◌≤◌, ℕ}
+use Rattle.std.specs.Prelude.{Option}
 use Rattle.ground.specs.Sizes.{bytes_of}
 use Rattle.memory.specs.Addresses.{wrap, wrapℤ}
 use Rattle.steps.specs.Answers.{number_of}
@@ -8,11 +9,10 @@ use Rattle.steps.specs.Demand1.{AllReadable, Ready}
 use Rattle.steps.specs.Demand2.{Done, Leaves, destination, lane_in}
 use Rattle.steps.specs.Lanes.{asked, element_at, governing_bytes}
 use Rattle.steps.specs.Plans.{plan_of}
-use Rattle.steps.specs.Said.{K, LaneActive, N, copies, lane_bytes, m, offs}
+use Rattle.steps.specs.Said.{K, LaneActive, N, Q, copies, lane_bytes, m, offs}
 use Rattle.steps.specs.Step.{StepPromise}
 use Rattle.steps.specs.Terms.{scalar, signed4}
 use Rattle.steps.specs.declared.StepResult.{StepResult}
-use Rattle.words.specs.declared.Back.{Back}
 use Rattle.words.specs.declared.Insn.{Insn}
 use Rattle.words.specs.declared.Offset.{Offset}
 use Rattle.words.specs.declared.Offset.TheVariants.{Imm, Reg}
@@ -52,7 +52,7 @@ demand_2_count = Rattle.steps.proofs.Demand2.demand_2_count
 
 -- Of LD1R to LD4R it is the number of registers.
 pub replicate_count : (l : Lent) (w : ℕ) (b : Bench) (r : StepResult) (l₁ : Lent) (b₁ : Bench) (promise : StepPromise l w b r l₁ b₁) → (i : Insn)
-    → Ready l w b i → AllReadable l b i → (q : ℕ) (back : Back) → i.shape ≡ Replicate q back → r.count ≡ i.registers
+    → Ready l w b i → AllReadable l b i → (q : Bool) (back : Option ℕ) → i.shape ≡ Replicate q back → r.count ≡ i.registers
 replicate_count = Rattle.steps.proofs.Demand2.replicate_count
 
 -- "registers t, t+1 and on, 31 followed by 0": register t + j modulo 32,
@@ -93,8 +93,8 @@ left_over_zero = Rattle.steps.proofs.Demand2.left_over_zero
 
 -- and, of LD1R to LD4R, "the rest of the Z register".
 pub rest_zero : (l : Lent) (w : ℕ) (b : Bench) (r : StepResult) (l₁ : Lent) (b₁ : Bench) (promise : StepPromise l w b r l₁ b₁) (i : Insn)
-    (ready : Ready l w b i) (all : AllReadable l b i) (j : ℕ) (there : j < i.registers) (k : ℕ) (inside : k < N l i) → (q : ℕ) (back : Back) → i.shape ≡ Replicate q back
-    → 8 * 2 ^ q ≤ k * lane_bytes i → lane_in l b₁.vectors (destination i j) (lane_bytes i) k ≡ 0
+    (ready : Ready l w b i) (all : AllReadable l b i) (j : ℕ) (there : j < i.registers) (k : ℕ) (inside : k < N l i) → (q : Bool) (back : Option ℕ) → i.shape ≡ Replicate q back
+    → 8 * 2 ^ Q q ≤ k * lane_bytes i → lane_in l b₁.vectors (destination i j) (lane_bytes i) k ≡ 0
 rest_zero = Rattle.steps.proofs.Demand2.rest_zero
 
 -- imm4 is a whole number from -8 to 7.
@@ -134,6 +134,6 @@ pub ld1r_by_element : (l : Lent) (x : List ℕ) (i : Insn) → (imm6 : ℕ) → 
 ld1r_by_element = Rattle.steps.proofs.Demand2.ld1r_by_element
 
 -- LD1R to LD4R: base + e × m, from the base itself on
-pub replicated : (l : Lent) (x : List ℕ) (i : Insn) → (q : ℕ) (back : Back) → i.shape ≡ Replicate q back → (e : ℕ)
+pub replicated : (l : Lent) (x : List ℕ) (i : Insn) → (q : Bool) (back : Option ℕ) → i.shape ≡ Replicate q back → (e : ℕ)
     → element_at (plan_of l.settings.vl x i) e ≡ wrap (scalar x i.base + e * bytes_of i.element.memory)
 replicated = Rattle.steps.proofs.Demand2.replicated

@@ -1,7 +1,7 @@
 -- Demand 3: nothing but the active elements matters; and its premise asks for no more than that.
 use Prim.Native.Nat.{◌<◌, ◌^◌, ℕ}
+use Rattle.memory.specs.Elements.{Reading}
 use Rattle.memory.specs.Troubles.{trouble_of}
-use Rattle.memory.specs.declared.Reading.{Reading}
 use Rattle.steps.specs.Answers.{number_of}
 use Rattle.steps.specs.Asks.{Agree, AsksFor, bench_with, lent_with, number_at, right_at}
 use Rattle.steps.specs.Benches.{Bench, Lent}

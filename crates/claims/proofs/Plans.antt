@@ -1,7 +1,7 @@
 -- What is claimed of what a word is about to do.
 use Prim.Native.Nat.{ℕ}
 use Rattle.plans.specs.Prepares.{PreparePromise}
-use Rattle.steps.specs.declared.Planned.{Planned}
+use Rattle.steps.specs.Step.{Planned}
 use Rattle.steps.specs.declared.Settings.{Settings}
 use mathlib.Core.List.{List}
 use mathlib.Core.Path.{◌≡◌}
