@@ -8,8 +8,10 @@ use native.Mathlib.Omega.{arith}
 use borrow.Author.Tests.{ltb-false, le-ltb, eqb-false}
 use lib.Dec.{eqb, lit<, lit≤}
 use Rattle.ground.proofs.Laws.{never}
-use Rattle.cases.specs.Heads.{flag_of, kind_of, strange_flag, strange_kind}
+use Rattle.cases.specs.Parts.{kind_in, carried}
+use Rattle.cases.specs.Heads.{flag_of, kind_of, strange_flag, strange_kind, question_with}
 use Rattle.cases.specs.Packs.{Asked, bit_of, flags_for}
+use Rattle.cases.specs.declared.heads.Numbers.{Numbers}
 
 -- a bit and its test
 bit_most : (t : Bool) → bit_of t ≤ 1
@@ -90,3 +92,14 @@ unfolding strange_kind
 known_kind k (inl e) = (rw e, omega arith)
 known_kind k (inr (inl e)) = (rw e, omega arith)
 known_kind k (inr (inr e)) = (rw e, omega arith)
+
+-- the question of a kind that is here has its number, and a window's carries its numbers
+module _ (k : ℕ) (n : Numbers) where
+  pub kind_with : (k ≡ 0) ⊎ (k ≡ 2) ⊎ (k ≡ 3) → kind_in (question_with k n) ≡ k
+  kind_with (inl e) = rw e
+  kind_with (inr (inl e)) = rw e
+  kind_with (inr (inr e)) = rw e
+
+  pub carried_with : (k ≡ 2) ⊎ (k ≡ 3) → carried (question_with k n) ≡ n
+  carried_with (inl e) = rw e
+  carried_with (inr e) = rw e

@@ -1,7 +1,6 @@
 -- The laws of the byte format.
 pub mod Lends
 pub mod Limits
-pub mod ByKind
 pub mod Unique
 pub mod Cuts
 pub mod Flags

@@ -1,36 +1,82 @@
 -- A case that bytes open with is within its limits, so that none is longer than the buffers of a program.
-use mathlib.Core.Path.{◌≡◌, refl}
+use mathlib.Core.Path.{◌≡◌, refl, sym, ◌∙◌, ap, subst}
 use mathlib.Core.Bool.{false, not}
-use mathlib.Core.List.{List}
-use Prim.Native.Nat.{ℕ, ◌+◌, ◌*◌, ◌≤◌}
+use mathlib.Core.List.{List, [], ◌∷◌}
+use Prim.Native.Nat.{ℕ, zero, suc, ◌+◌, ◌*◌, ◌≤◌, ◌<◌}
 use native.Mathlib.Omega.{arith}
-use borrow.Author.Tests.{ltb-false, le-ltb, eqb-true, not-false}
+use borrow.Author.Tests.{ltb-false, lt-ltb, le-ltb, eqb-true, not-false}
 use lib.Dec.{eqb, ltb, lit≤}
-use lib.ListN.{length}
+use lib.ListN.{length, get_or}
+use Rattle.std.specs.Prelude.{Result, Ok, Err}
+use Rattle.ground.specs.Choices.{Row, ◌⇒◌, first_of}
 use Rattle.ground.specs.Lists.{bytes_at}
 use Rattle.ground.proofs.Laws.{if_cases}
-use Rattle.cases.specs.Parts.{head_bytes, case_bytes}
+use Rattle.cases.specs.Parts.{kind_in, carried, head_bytes, case_bytes}
 use Rattle.cases.specs.Heads.{magic, flags_in, kind_of, strange_flag, strange_kind, head_of, limited, marked_of, opened_of}
-use Rattle.cases.specs.Inside.{WithinLimits}
+use Rattle.cases.specs.Inside.{Bounds, WithinLimits}
 use Rattle.cases.specs.Outcomes.{outcome_length}
 use Rattle.cases.specs.declared.heads.Case.{Case}
+use Rattle.cases.specs.declared.heads.Part.{Part}
+use Rattle.cases.specs.declared.heads.Part.TheVariants.{Vectors, Predicates, Scalars, Flash, FlashRights, Ram, RamRights, Blob}
 use Rattle.cases.specs.declared.heads.Refusal.{Refusal}
+use Rattle.cases.specs.declared.heads.Refusal.TheVariants.{Long}
 use Rattle.cases.specs.declared.heads.Opened.{Opened}
-use Rattle.cases.specs.declared.heads.Opened.TheVariants.{Begins, Broken}
 
--- no part is over its limit
-pub record Bounds (c : Case) : Type 0 where
-  pub vectors : c.vectors ≤ 65536
-  pub predicates : c.predicates ≤ 4096
-  pub scalars : c.scalars ≤ 128
-  pub flash : c.flash ≤ 131072
-  pub flash_rights : c.flash_rights ≤ 64
-  pub ram : c.ram ≤ 131072
-  pub ram_rights : c.ram_rights ≤ 64
-  pub blob : c.question.blob ≤ 65536
+-- part k of a table of lengths, limits and parts is within its limit
+abbrev pub Sized : Type 0
+Sized = ℕ × ℕ × Part
+
+abbrev pub ShortAt : List Sized → ℕ → Type 0
+ShortAt ps k = let p = get_or ps k (0, 0, Vectors) in p.0 ≤ p.1
+
+-- .. as that of a case
+abbrev pub limits_of : Case → ℕ → List Sized
+limits_of c blob =
+    (c.vectors, 65536, Vectors)
+    ∷ (c.predicates, 4096, Predicates)
+    ∷ (c.scalars, 128, Scalars)
+    ∷ (c.flash, 131072, Flash)
+    ∷ (c.flash_rights, 64, FlashRights)
+    ∷ (c.ram, 131072, Ram)
+    ∷ (c.ram_rights, 64, RamRights)
+    ∷ (blob, 65536, Blob)
+    ∷ []
+
+-- a table's first part over its limit is told
+abbrev pub over : List Sized → List (Row (Result Opened Refusal))
+over [] = []
+over (p ∷ ps) = (ltb p.1 p.0 ⇒ Err (Long p.2)) ∷ over ps
+
+pub first_over : (ps : List Sized) (k : ℕ) (d : Result Opened Refusal) → k < length ps → ((j : ℕ) → j < k → ShortAt ps j)
+    → (let p = get_or ps k (0, 0, Vectors) in p.1 < p.0) → Err (Long (get_or ps k (0, 0, Vectors)).2) ≡ first_of (over ps) d
+first_over [] k d l short long = absurd (omega arith)
+first_over (p ∷ ps) zero d l short long = rw (lt-ltb _ _ long)
+first_over (p ∷ ps) (suc k) d l short long =
+    rw (le-ltb _ _ (short 0 (omega arith))) (first_over ps k d (omega arith) (λ j m. short (suc j) (omega arith)) long)
+
+module _ (c : Case) (blob k : ℕ) (e : blob ≡ (carried c.question).blob) where
+  pub first_told : k < 8 → ((j : ℕ) → j < k → ShortAt (limits_of c blob) j)
+      → (let p = get_or (limits_of c blob) k (0, 0, Vectors) in p.1 < p.0) → Err (Long (get_or (limits_of c blob) k (0, 0, Vectors)).2) ≡ limited c
+  unfolding limited
+  first_told l short long =
+      let d : Result Opened Refusal = Ok (record { case = c; whole = case_bytes c }) in
+      first_over (limits_of c blob) k d l short long ∙ ap (λ (n : ℕ). first_of (over (limits_of c n)) d) e
+
+  pub short_past : 8 ≤ k → ((j : ℕ) → j < k → ShortAt (limits_of c blob) j) → Bounds c
+  short_past most short =
+      record {
+        vectors = short 0 (omega arith);
+        predicates = short 1 (omega arith);
+        scalars = short 2 (omega arith);
+        flash = short 3 (omega arith);
+        flash_rights = short 4 (omega arith);
+        ram = short 5 (omega arith);
+        ram_rights = short 6 (omega arith);
+        blob = rw (← e) (short 7 (omega arith));
+      }
 
 -- such a case is taken
-pub all_short : {c : Case} → Bounds c → Begins c (case_bytes c) ≡ limited c
+pub all_short : {c : Case} → Bounds c → Ok (record { case = c; whole = case_bytes c }) ≡ limited c
 unfolding limited
 all_short b =
     rw (le-ltb _ _ b.vectors, le-ltb _ _ b.predicates, le-ltb _ _ b.scalars, le-ltb _ _ b.flash)
@@ -50,7 +96,8 @@ pub record GoodHead (s : List ℕ) : Type 0 where
   pub bounds : Bounds (head_of s)
 
 -- a fact of every refusal, and of the case of a good head, holds of whatever bytes open with
-module _ (s : List ℕ) (P : Opened → Type 0) (no : (why : Refusal) → P (Broken why)) (yes : GoodHead s → P (Begins (head_of s) (case_bytes (head_of s)))) where
+module _ (s : List ℕ) (P : Result Opened Refusal → Type 0) (no : (why : Refusal) → P (Err why))
+    (yes : GoodHead s → P (Ok (record { case = head_of s; whole = case_bytes (head_of s) }))) where
   pub opened : P (opened_of s)
   unfolding opened_of marked_of limited
   opened =
@@ -69,7 +116,7 @@ module _ (s : List ℕ) (P : Opened → Type 0) (no : (why : Refusal) → P (Bro
       if_cases P (ltb 64 c.flash_rights) _ _ (λ _. no _) (λ fr.
       if_cases P (ltb 131072 c.ram) _ _ (λ _. no _) (λ r.
       if_cases P (ltb 64 c.ram_rights) _ _ (λ _. no _) (λ rr.
-      if_cases P (ltb 65536 c.question.blob) _ _ (λ _. no _) (λ b.
+      if_cases P (ltb 65536 (carried c.question).blob) _ _ (λ _. no _) (λ b.
       yes
       (record {
         begins = eqb-true _ _ (not-false _ m);
@@ -91,18 +138,21 @@ module _ (s : List ℕ) (P : Opened → Type 0) (no : (why : Refusal) → P (Bro
 pub within_limits : (s : List ℕ) → WithinLimits (opened_of s)
 within_limits s = opened s WithinLimits (λ why. tt) (λ g. (refl, g.bounds.vectors, g.bounds.scalars))
 
+pub opened_within : (s : List ℕ) (o : Opened) → Ok o ≡ opened_of s → WithinLimits (Ok o)
+opened_within s o e = subst WithinLimits (sym e) (within_limits s)
+
 -- the longest case and the longest outcome
-abbrev pub Longest : Opened → Type 0
-Longest (Broken why) = Unit {0}
-Longest (Begins c n) = (n ≤ 398600) × (outcome_length c ≤ 66585)
+abbrev pub Longest : Result Opened Refusal → Type 0
+Longest (Err why) = Unit {0}
+Longest (Ok o) = (o.whole ≤ 398600) × (outcome_length o.case ≤ 66585)
 
 outcome_most : (c : Case) → Bounds c → outcome_length c ≤ 66585
 unfolding outcome_length
 outcome_most c b =
-    if_cases (λ (n : ℕ). n ≤ 66585) (eqb c.question.kind 0) (25 + c.vectors + 8 * c.scalars) 33
+    if_cases (λ (n : ℕ). n ≤ 66585) (eqb (kind_in c.question) 0) (25 + c.vectors + 8 * c.scalars) 33
     (λ _. omega (arith, b.vectors, b.scalars)) (λ _. lit≤ tt)
 
 pub longest_case : (s : List ℕ) → Longest (opened_of s)
 longest_case s =
     opened s Longest (λ why. tt)
-    (λ g. let b = g.bounds in let h = head_most (head_of s).question.kind in (omega arith, outcome_most (head_of s) b))
+    (λ g. let b = g.bounds in let h = head_most (kind_in (head_of s).question) in (omega arith, outcome_most (head_of s) b))

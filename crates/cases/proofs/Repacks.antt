@@ -2,6 +2,7 @@
 use Prim.Native.Nat.{ℕ, zero, suc, ◌+◌, ◌*◌, ◌^◌, ◌≤◌, ◌<◌}
 use mathlib.Core.Path.{◌≡◌, refl, sym, ◌∙◌, ap}
 use mathlib.Core.Bool.{Bool, true, false}
+use mathlib.Core.Logic.{◌⊎◌, inl, inr}
 use mathlib.Core.List.{List, [], ◌∷◌, ◌++◌, map, flatten, append_assoc}
 use native.Mathlib.Omega.{arith}
 use borrow.Author.Tests.{eqb-false}
@@ -10,14 +11,16 @@ use lib.ListN.{length, get_or, take, drop, length-append, length-drop}
 use lib.Seq.{get_or-drop}
 use Rattle.ground.specs.Lists.{listed, bytes_at, EachBelow}
 use Rattle.ground.proofs.Laws.{if_cases, length_listed, little_below}
-use Rattle.cases.specs.Parts.{part_at, head_bytes, vectors_at, scalars_at, blob_at, case_bytes}
-use Rattle.cases.specs.Heads.{flags_in, kind_of, question_of, head_of}
+use Rattle.cases.specs.Parts.{kind_in, no_numbers, carried, part_at, head_bytes, vectors_at, scalars_at, blob_at, case_bytes}
+use Rattle.cases.specs.Heads.{flags_in, kind_of, numbers_of, question_of, head_of}
 use Rattle.cases.specs.Packs.{Asked, in_bytes, flags_for, head_parts, question_parts, lent_parts, packed, Packable}
+use Rattle.cases.specs.declared.heads.Numbers.{Numbers}
 use Rattle.cases.specs.declared.heads.Question.{Question}
+use Rattle.cases.specs.declared.heads.Question.TheVariants.{Step, Address, Lane}
 use Rattle.cases.specs.declared.heads.Case.{Case}
-use Rattle.cases.proofs.Limits.{Bounds}
+use Rattle.cases.specs.Inside.{Bounds}
 use Rattle.cases.proofs.Cuts.{parts_in, numbers_in, flatten_append, parts_long, parts_joined, numbers_joined, laid_packed}
-use Rattle.cases.proofs.Flags.{flags_packed, kind_known}
+use Rattle.cases.proofs.Flags.{flags_packed, kind_known, carried_with}
 use Rattle.cases.proofs.Opens.{Good, kind_asked, head_least}
 use Rattle.cases.proofs.Unpacks.{lengths_in, asked_from}
 
@@ -32,6 +35,12 @@ listed_below : (b : ℕ) (f : ℕ → ℕ) → ((k : ℕ) → f k < b) → (i n 
 listed_below b f h i zero k = let l = h k in omega arith
 listed_below b f h i (suc n) zero = h i
 listed_below b f h i (suc n) (suc k) = listed_below b f h (i + 1) n k
+
+-- one step carries no numbers
+bare : (u : Question) → kind_in u ≡ 0 → carried u ≡ no_numbers
+bare Step e = refl
+bare (Address n) e = absurd (omega arith)
+bare (Lane n) e = absurd (omega arith)
 
 module _ (s : List ℕ) (bytes : EachBelow 256 s) where
   parts_below : (at : ℕ) (ns : List ℕ) (k : ℕ) → EachBelow 256 (get_or (parts_in s at ns) k [])
@@ -59,54 +68,54 @@ module _ (s : List ℕ) (bytes : EachBelow 256 s) where
     x_long : length q.x ≡ c.scalars
     x_long = length_listed _ 0 c.scalars
 
-    lent_joined : drop (head_bytes c.question.kind) s ≡ flatten (lent_parts q) ++ drop (case_bytes c) s
+    lent_joined : drop (head_bytes (kind_in c.question)) s ≡ flatten (lent_parts q) ++ drop (case_bytes c) s
     unfolding lent_parts
     lent_joined =
         rw (← laid_packed 8 s (scalars_at c) bytes c.scalars (omega (arith, g.whole))) (parts_joined s (vectors_at c) (lengths_in c))
 
     -- what is asked
-    kind_same : c.question.kind ≡ kind_of (flags_in s)
+    kind_same : kind_in c.question ≡ kind_of (flags_in s)
     unfolding head_of
-    kind_same = kind_asked s
+    kind_same = kind_asked s g.head.kind
 
     abbrev five : List ℕ
     five = 8 ∷ 8 ∷ 8 ∷ 8 ∷ 8 ∷ []
 
-    numbers_same : eqb c.question.kind 0 ≡ false → question_parts q ≡ numbers_in s 96 five
-    unfolding question_parts head_of question_of
+    carried_same : eqb (kind_in c.question) 0 ≡ false → carried c.question ≡ numbers_of s
+    unfolding head_of question_of
+    carried_same z = go (kind_known (kind_of (flags_in s)) g.head.kind)
+      where
+        go : (kind_of (flags_in s) ≡ 0) ⊎ (kind_of (flags_in s) ≡ 2) ⊎ (kind_of (flags_in s) ≡ 3) → carried c.question ≡ numbers_of s
+        go (inl e) = absurd (eqb-false _ 0 z (kind_same ∙ e))
+        go (inr h) = carried_with _ _ h
+
+    numbers_same : eqb (kind_in c.question) 0 ≡ false → question_parts q ≡ numbers_in s 96 five
+    unfolding question_parts numbers_of
     numbers_same z =
-        let t = rw kind_same at z in
-        let asked : question_of s ≡ record {
-          kind = kind_of (flags_in s);
-          a0 = bytes_at s 96 8;
-          a1 = bytes_at s 104 8;
-          a2 = bytes_at s 112 8;
-          a3 = bytes_at s 120 8;
-          blob = bytes_at s 128 8;
-        } = rw t in
-        let blob = long 7 ∙ ap (λ (u : Question). u.blob) asked in
+        let asked = carried_same z in
+        let blob = long 7 ∙ ap (λ (n : Numbers). n.blob) asked in
         rw z (λ i. in_bytes 8 (asked i).a0 ∷ in_bytes 8 (asked i).a1 ∷ in_bytes 8 (asked i).a2 ∷ in_bytes 8 (asked i).a3 ∷ in_bytes 8 (blob i) ∷ [])
 
-    question_by : (t : Bool) → eqb c.question.kind 0 ≡ t → drop 96 s ≡ flatten (question_parts q) ++ drop (head_bytes c.question.kind) s
+    question_by : (t : Bool) → eqb (kind_in c.question) 0 ≡ t → drop 96 s ≡ flatten (question_parts q) ++ drop (head_bytes (kind_in c.question)) s
     unfolding question_parts head_bytes flatten
     question_by true z = rw z
     question_by false z =
-        let longer : head_bytes c.question.kind ≡ 136 = rw z in
+        let longer : head_bytes (kind_in c.question) ≡ 136 = rw z in
         rw (numbers_same z, longer) (numbers_joined s bytes 96 five (omega (arith, g.whole)))
 
-    question_joined : drop 96 s ≡ flatten (question_parts q) ++ drop (head_bytes c.question.kind) s
-    question_joined = question_by (eqb c.question.kind 0) refl
+    question_joined : drop 96 s ≡ flatten (question_parts q) ++ drop (head_bytes (kind_in c.question)) s
+    question_joined = question_by (eqb (kind_in c.question) 0) refl
 
     flags_same : flags_for q ≡ flags_in s
     unfolding head_of
-    flags_same = rw (kind_asked s) (flags_packed (flags_in s) g.head.flags)
+    flags_same = rw kind_same (flags_packed (flags_in s) g.head.flags)
 
     -- the table's rows
     abbrev widths : List ℕ
     widths = 4 ∷ 4 ∷ 4 ∷ 4 ∷ 8 ∷ 8 ∷ 8 ∷ 8 ∷ 8 ∷ 8 ∷ 8 ∷ 8 ∷ 8 ∷ 8 ∷ []
 
     rows_there : 96 ≤ length s
-    rows_there = let l = head_least c.question.kind in omega (arith, g.whole)
+    rows_there = let l = head_least (kind_in c.question) in omega (arith, g.whole)
 
     rows : head_parts q ≡ numbers_in s 0 widths
     unfolding head_parts head_of
@@ -137,20 +146,16 @@ module _ (s : List ℕ) (bytes : EachBelow 256 s) where
         (rw (← lent_joined, ← question_joined) head_joined)
 
     -- and what it is packed from can be packed
-    question_below : (c.question.a0 < 2 ^ 64) × (c.question.a1 < 2 ^ 64) × (c.question.a2 < 2 ^ 64) × (c.question.a3 < 2 ^ 64)
+    windows : ((numbers_of s).a0 < 2 ^ 64) × ((numbers_of s).a1 < 2 ^ 64) × ((numbers_of s).a2 < 2 ^ 64) × ((numbers_of s).a3 < 2 ^ 64)
+    unfolding numbers_of
+    windows = (number_below 96 8, number_below 104 8, number_below 112 8, number_below 120 8)
+
+    question_below : ((carried c.question).a0 < 2 ^ 64) × ((carried c.question).a1 < 2 ^ 64) × ((carried c.question).a2 < 2 ^ 64) × ((carried c.question).a3 < 2 ^ 64)
     unfolding head_of question_of
     question_below =
-        if_cases (λ (u : Question). (u.a0 < 2 ^ 64) × (u.a1 < 2 ^ 64) × (u.a2 < 2 ^ 64) × (u.a3 < 2 ^ 64)) (eqb (kind_of (flags_in s)) 0) _ _
-        (λ _. (lit< tt, lit< tt, lit< tt, lit< tt))
-        (λ _. (number_below 96 8, number_below 104 8, number_below 112 8, number_below 120 8))
-
-    question_bare : c.question.kind ≡ 0
-        → (c.question.a0 ≡ 0) × (c.question.a1 ≡ 0) × (c.question.a2 ≡ 0) × (c.question.a3 ≡ 0) × (c.question.blob ≡ 0)
-    unfolding head_of question_of
-    question_bare =
-        if_cases (λ (u : Question). u.kind ≡ 0 → (u.a0 ≡ 0) × (u.a1 ≡ 0) × (u.a2 ≡ 0) × (u.a3 ≡ 0) × (u.blob ≡ 0)) (eqb (kind_of (flags_in s)) 0) _ _
-        (λ _ _. (refl, refl, refl, refl, refl))
-        (λ z e. absurd (eqb-false _ 0 z e))
+        let Below : Question → Type 0 = λ u. ((carried u).a0 < 2 ^ 64) × ((carried u).a1 < 2 ^ 64) × ((carried u).a2 < 2 ^ 64) × ((carried u).a3 < 2 ^ 64) in
+        if_cases Below (eqb (kind_of (flags_in s)) 0) _ _ (λ _. (lit< tt, lit< tt, lit< tt, lit< tt)) (λ _.
+        if_cases Below (eqb (kind_of (flags_in s)) 2) _ _ (λ _. windows) (λ _. windows))
 
     pub can_pack : Packable q
     unfolding head_of
@@ -175,7 +180,13 @@ module _ (s : List ℕ) (bytes : EachBelow 256 s) where
           blob = (rw (long 7) bounds.blob, below 7);
           level = g.head.level;
           kind = rw kind_same (kind_known (kind_of (flags_in s)) g.head.kind);
-          bare = λ e. let b = question_bare e in (b.0, b.1, b.2, b.3, ap (part_at s (blob_at c)) b.4);
+          bare = λ e. let b = bare c.question e in (
+            ap (λ (n : Numbers). n.a0) b,
+            ap (λ (n : Numbers). n.a1) b,
+            ap (λ (n : Numbers). n.a2) b,
+            ap (λ (n : Numbers). n.a3) b,
+            ap (λ (n : Numbers). part_at s (blob_at c) n.blob) b,
+          );
         }
 
     -- as many bytes as the case takes

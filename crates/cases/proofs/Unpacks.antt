@@ -1,7 +1,8 @@
 -- A packed case, whatever follows it, is read as what it was packed from.
-use Prim.Native.Nat.{ℕ, ◌*◌, ◌≤◌}
+use Prim.Native.Nat.{ℕ, ◌+◌, ◌*◌, ◌≤◌}
 use mathlib.Core.Path.{◌≡◌, refl, sym, ◌∙◌, ap}
 use mathlib.Core.Bool.{Bool, true, false}
+use mathlib.Core.Logic.{◌⊎◌, inl, inr}
 use mathlib.Core.List.{List, [], ◌∷◌, ◌++◌, map, flatten, append_assoc}
 use native.Mathlib.Nat.{zero-add}
 use native.Mathlib.Omega.{arith}
@@ -9,17 +10,21 @@ use borrow.Author.Tests.{eqb-true}
 use lib.Dec.{eqb}
 use lib.ListN.{length, get_or, drop}
 use Rattle.ground.specs.Lists.{bytes_at}
-use Rattle.cases.specs.Parts.{head_bytes, vectors_at, scalars_at, case_bytes, scalars_in}
-use Rattle.cases.specs.Heads.{magic, flags_in, flag_of, kind_of, question_of, head_of}
+use Rattle.cases.specs.Parts.{kind_in, carried, head_bytes, vectors_at, scalars_at, case_bytes, scalars_in}
+use Rattle.cases.specs.Heads.{magic, flags_in, flag_of, kind_of, question_with, numbers_of, question_of, head_of}
 use Rattle.cases.specs.Packs.{Asked, in_bytes, flags_for, head_parts, asked_numbers, question_parts, lent_parts, packed, Packable, map_for, lent_for}
+use Rattle.cases.specs.declared.heads.Numbers.{Numbers}
 use Rattle.cases.specs.declared.heads.Question.{Question}
 use Rattle.cases.specs.declared.heads.Case.{Case}
 use Rattle.cases.proofs.Cuts.{number_read, parts_in, each_part, place_behind, flatten_append, parts_read, parts_behind, flatten_long, laid_long, laid_read}
-use Rattle.cases.proofs.Flags.{flags_small, simd_read, sve_read, f64mm_read, kind_read, known_kind}
+use Rattle.cases.proofs.Flags.{flags_small, simd_read, sve_read, f64mm_read, kind_read, known_kind, kind_with, carried_with}
 
 -- the head of the case that is packed
+abbrev pub numbers_for : Asked → Numbers
+numbers_for q = record { a0 = q.a0; a1 = q.a1; a2 = q.a2; a3 = q.a3; blob = length q.blob }
+
 abbrev pub question_for : Asked → Question
-question_for q = record { kind = q.kind; a0 = q.a0; a1 = q.a1; a2 = q.a2; a3 = q.a3; blob = length q.blob }
+question_for q = question_with q.kind (numbers_for q)
 
 abbrev pub case_for : Asked → Case
 case_for q =
@@ -39,24 +44,24 @@ case_for q =
 
 -- how long its parts are, and what it was packed from: its head, its level, its parts as they lie, and x
 abbrev pub lengths_in : Case → List ℕ
-lengths_in c = c.vectors ∷ c.predicates ∷ 8 * c.scalars ∷ c.flash ∷ c.flash_rights ∷ c.ram ∷ c.ram_rights ∷ c.question.blob ∷ []
+lengths_in c = c.vectors ∷ c.predicates ∷ 8 * c.scalars ∷ c.flash ∷ c.flash_rights ∷ c.ram ∷ c.ram_rights ∷ (carried c.question).blob ∷ []
 
-abbrev pub asked_with : Case → ℕ → List (List ℕ) → List ℕ → Asked
-asked_with c level parts x =
+abbrev pub asked_with : Case → ℕ → Numbers → ℕ → List (List ℕ) → List ℕ → Asked
+asked_with c kind n level parts x =
     record {
       word = c.word;
       simd = c.settings.simd;
       sve = c.settings.sve;
       f64mm = c.settings.f64mm;
-      kind = c.question.kind;
+      kind = kind;
       level = level;
       vl = c.settings.vl;
       flash_start = c.map.flash.0;
       ram_start = c.map.ram.0;
-      a0 = c.question.a0;
-      a1 = c.question.a1;
-      a2 = c.question.a2;
-      a3 = c.question.a3;
+      a0 = n.a0;
+      a1 = n.a1;
+      a2 = n.a2;
+      a3 = n.a3;
       z = get_or parts 0 [];
       p = get_or parts 1 [];
       x = x;
@@ -68,19 +73,32 @@ asked_with c level parts x =
     }
 
 abbrev pub asked_from : List ℕ → Case → Asked
-asked_from s c = asked_with c (bytes_at s 12 4) (parts_in s (vectors_at c) (lengths_in c)) (scalars_in s c)
+asked_from s c = asked_with c (kind_in c.question) (carried c.question) (bytes_at s 12 4) (parts_in s (vectors_at c) (lengths_in c)) (scalars_in s c)
 
--- how long it is
-pub packed_long : (q : Asked) → case_bytes (case_for q) ≡ length (packed q)
-unfolding packed head_parts question_parts lent_parts head_bytes
-packed_long q = go (eqb q.kind 0) refl ∙ sym (flatten_long 0 all_parts) ∙ zero-add _
-  where
-    all_parts : List (List ℕ)
-    all_parts = head_parts q ++ (question_parts q ++ lent_parts q)
+module _ (q : Asked) (can : Packable q) where
+  -- its kind and its numbers are those that are asked
+  pub kind_for : kind_in (question_for q) ≡ q.kind
+  kind_for = kind_with q.kind (numbers_for q) can.kind
 
-    go : (t : Bool) → eqb q.kind 0 ≡ t → case_bytes (case_for q) ≡ place_behind 0 (map length all_parts)
-    go true z = rw (z, laid_long 8 q.x)
-    go false z = rw (z, laid_long 8 q.x)
+  pub carried_for : carried (question_for q) ≡ numbers_for q
+  carried_for = go can.kind
+    where
+      go : (q.kind ≡ 0) ⊎ (q.kind ≡ 2) ⊎ (q.kind ≡ 3) → carried (question_for q) ≡ numbers_for q
+      go (inl e) = let bare = can.bare e in rw (e, bare.0, bare.1, bare.2, bare.3, bare.4)
+      go (inr h) = carried_with q.kind (numbers_for q) h
+
+  -- how long it is
+  pub packed_long : case_bytes (case_for q) ≡ length (packed q)
+  unfolding packed head_parts question_parts lent_parts head_bytes
+  packed_long = rw (kind_for, carried_for) (go (eqb q.kind 0) refl) ∙ sym (flatten_long 0 all_parts) ∙ zero-add _
+    where
+      all_parts : List (List ℕ)
+      all_parts = head_parts q ++ (question_parts q ++ lent_parts q)
+
+      go : (t : Bool) → eqb q.kind 0 ≡ t → head_bytes q.kind + length q.z + length q.p + 8 * length q.x + length q.flash + length q.flash_rights
+          + length q.ram + length q.ram_rights + length q.blob ≡ place_behind 0 (map length all_parts)
+      go true z = rw (z, laid_long 8 q.x)
+      go false z = rw (z, laid_long 8 q.x)
 
 module _ (q : Asked) (can : Packable q) (rest : List ℕ) where
   abbrev stream : List ℕ
@@ -115,25 +133,21 @@ module _ (q : Asked) (can : Packable q) (rest : List ℕ) where
   asked_there = rw (flatten_append (question_parts q) (lent_parts q), append_assoc)
 
   question_by : (t : Bool) → eqb q.kind 0 ≡ t → (question_of stream ≡ question_for q) × (drop (head_bytes q.kind) stream ≡ flatten (lent_parts q) ++ rest)
-  unfolding question_parts question_of head_bytes flatten
-  question_by true z =
-      let step = eqb-true q.kind 0 z in
-      let bare = can.bare step in
-      (rw (kind_there, z) (rw (step, bare.0, bare.1, bare.2, bare.3, bare.4)), rw z (rw z at asked_there))
+  unfolding question_parts question_of numbers_of head_bytes flatten
+  question_by true z = (rw (kind_there, z), rw z (rw z at asked_there))
   question_by false z =
       let five : List (List ℕ) = map (in_bytes 8) (asked_numbers q) in
       let behind : List ℕ = flatten (lent_parts q) ++ rest in
       let there : drop 96 stream ≡ flatten five ++ behind = rw z at asked_there in
       let numbers = parts_read stream 96 five behind there in (
-        rw (kind_there, z)
-            (λ i. record {
-              kind = q.kind;
+        rw kind_there
+            (λ i. question_with q.kind (record {
               a0 = number_read stream 96 8 q.a0 (each_part numbers 0) can.a0 i;
               a1 = number_read stream 104 8 q.a1 (each_part numbers 1) can.a1 i;
               a2 = number_read stream 112 8 q.a2 (each_part numbers 2) can.a2 i;
               a3 = number_read stream 120 8 q.a3 (each_part numbers 3) can.a3 i;
               blob = number_read stream 128 8 (length q.blob) (each_part numbers 4) (omega (arith, can.blob.0)) i;
-            }),
+            })),
         rw z (parts_behind stream 96 five behind there),
       )
 
@@ -167,11 +181,11 @@ module _ (q : Asked) (can : Packable q) (rest : List ℕ) where
 
   parts_there : parts_in stream (vectors_at (case_for q)) (lengths_in (case_for q)) ≡ lent_parts q
   unfolding lent_parts
-  parts_there = rw laid_long at (parts_read stream (head_bytes q.kind) (lent_parts q) rest question_read.1)
+  parts_there = rw (kind_for q can, carried_for q can) (rw laid_long at (parts_read stream (head_bytes q.kind) (lent_parts q) rest question_read.1))
 
   -- so all that was packed is read back
   pub read_back : asked_from stream (head_of stream) ≡ q
   unfolding lent_parts
   read_back =
       let x = laid_read 8 stream (scalars_at (case_for q)) q.x can.x.1 (λ i. get_or (parts_there i) 2 []) in
-      rw head_read (λ i. asked_with (case_for q) (level_read i) (parts_there i) (x i))
+      rw head_read (λ i. asked_with (case_for q) (kind_for q can i) (carried_for q can i) (level_read i) (parts_there i) (x i))

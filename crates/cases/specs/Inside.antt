@@ -1,19 +1,37 @@
 -- What the functions below `answer` are given and give. This file serves proofs alone, and nothing in it has to be believed: the promise
 -- of `answer` is AnswerPromise.
-use Rattle.std.specs.Prelude.{ℕ, ◌+◌, ◌*◌, ◌≤◌, ◌≡◌, List, ◌++◌, drop}
+use Rattle.std.specs.Prelude.{ℕ, ◌+◌, ◌*◌, ◌≤◌, ◌≡◌, if◌then◌else◌, List, ◌++◌, drop, Result, Ok, Err}
 use Rattle.steps.specs.Answers.{Report, report_with}
 use Rattle.steps.specs.Step.{step_of}
-use Rattle.cases.specs.Parts.{case_bytes, lent_in, bench_in}
+use Rattle.cases.specs.Parts.{carried, case_bytes, lent_in, bench_in}
+use Rattle.cases.specs.Heads.{flags_in, kind_of, strange_kind, question_of}
 use Rattle.cases.specs.Outcomes.{outcome_bytes}
 use Rattle.cases.specs.declared.heads.Case.{Case}
 use Rattle.cases.specs.declared.heads.Opened.{Opened}
-use Rattle.cases.specs.declared.heads.Opened.TheVariants.{Begins, Broken}
+use Rattle.cases.specs.declared.heads.Refusal.{Refusal}
+use Rattle.cases.specs.declared.heads.Refusal.TheVariants.{Kind}
+use Rattle.cases.specs.declared.heads.Question.{Question}
 use Rattle.cases.specs.declared.outcomes.Told.{Told}
 
+-- what is asked, if its kind is here
+unfoldable pub asked_of : List ℕ → Result Question Refusal
+asked_of s = if strange_kind (kind_of (flags_in s)) then Err Kind else Ok (question_of s)
+
+-- no part is over its limit
+pub record Bounds (c : Case) : Type 0 where
+  pub vectors : c.vectors ≤ 65536
+  pub predicates : c.predicates ≤ 4096
+  pub scalars : c.scalars ≤ 128
+  pub flash : c.flash ≤ 131072
+  pub flash_rights : c.flash_rights ≤ 64
+  pub ram : c.ram ≤ 131072
+  pub ram_rights : c.ram_rights ≤ 64
+  pub blob : (carried c.question).blob ≤ 65536
+
 -- of a case that bytes open with: its length, and the limits of its vectors and scalars, so that no sum of theirs wraps
-abbrev pub WithinLimits : Opened → Type 0
-WithinLimits (Broken why) = Unit {0}
-WithinLimits (Begins c n) = (n ≡ case_bytes c) × (c.vectors ≤ 65536) × (c.scalars ≤ 128)
+abbrev pub WithinLimits : Result Opened Refusal → Type 0
+WithinLimits (Err why) = Unit {0}
+WithinLimits (Ok o) = (o.whole ≡ case_bytes o.case) × (o.case.vectors ≤ 65536) × (o.case.scalars ≤ 128)
 
 -- what is told, as a report
 abbrev pub report_in : Told → Report

@@ -3,6 +3,7 @@ use Rattle.std.specs.Prelude.{if◌then◌else◌, ℕ, ◌+◌, ◌*◌, ◌/�
 use Rattle.ground.specs.Lists.{listed}
 use Rattle.steps.specs.Answers.{Report}
 use Rattle.steps.specs.Outcomes.{Outcome}
+use Rattle.cases.specs.Parts.{kind_in}
 use Rattle.cases.specs.declared.heads.Case.{Case}
 
 -- numbers of 8 bytes one after the other: byte i is byte i mod 8 of number i div 8
@@ -26,4 +27,4 @@ window_bytes r = report_bytes r ++ eights (0 ∷ [])
 
 -- how many these are
 unfoldable pub outcome_length : Case → ℕ
-outcome_length c = if eqb c.question.kind 0 then 25 + c.vectors + 8 * c.scalars else 33
+outcome_length c = if eqb (kind_in c.question) 0 then 25 + c.vectors + 8 * c.scalars else 33

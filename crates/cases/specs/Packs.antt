@@ -1,6 +1,6 @@
 -- docs/CASES.md from the writing side: what a case is packed from, its bytes, and the outcome that it is due. Nothing here says how a case is
 -- read; proofs/Packs.antt holds the two sides to each other.
-use Rattle.std.specs.Prelude.{if◌then◌else◌, ℕ, ◌+◌, ◌*◌, ◌/◌, ◌%◌, ◌^◌, ◌≤◌, ◌<◌, ◌≡◌, ◌⊎◌, Bool, eqb, length, drop}
+use Rattle.std.specs.Prelude.{if◌then◌else◌, ℕ, ◌+◌, ◌*◌, ◌/◌, ◌%◌, ◌^◌, ◌≤◌, ◌<◌, ◌≡◌, ◌⊎◌, Bool, eqb, length, drop, Ok}
 use mathlib.Core.List.{List, [], ◌∷◌, ◌++◌, map, flatten}
 use Rattle.ground.specs.Choices.{◌⇒◌, first_of}
 use Rattle.ground.specs.Lists.{listed, EachBelow}
@@ -16,7 +16,6 @@ use Rattle.lanes.specs.declared.Shown.TheVariants.{NoLane}
 use Rattle.cases.specs.Outcomes.{outcome_bytes, window_bytes}
 use Rattle.cases.specs.Windows.{place_report, shown_report}
 use Rattle.cases.specs.Answers.{After}
-use Rattle.cases.specs.declared.Answered.TheVariants.{Written}
 
 -- what a case asks, and all that it lends
 pub record Asked : Type 0 where
@@ -166,4 +165,4 @@ module _ (q : Asked) where
   -- what is answered: as many bytes taken as the case has, and the outcome over the first bytes of what is lent for it
   abbrev pub answer_for : List ℕ → After
   answer_for out =
-      record { answer = Written (length (packed q)) (length outcome_for); out = outcome_for ++ drop (length outcome_for) out }
+      record { answer = Ok (record { taken = length (packed q); given = length outcome_for }); out = outcome_for ++ drop (length outcome_for) out }

@@ -4,11 +4,28 @@ use Rattle.ground.specs.Lists.{listed, bytes_at}
 use Rattle.memory.specs.Areas.{Areas, areas_of}
 use Rattle.steps.specs.Benches.{Lent, Bench}
 use Rattle.bench.specs.Lends.{lent_of, bench_of}
+use Rattle.cases.specs.declared.heads.Numbers.{Numbers}
+use Rattle.cases.specs.declared.heads.Question.{Question}
+use Rattle.cases.specs.declared.heads.Question.TheVariants.{Step, Address, Lane}
 use Rattle.cases.specs.declared.heads.Case.{Case}
 
 -- n bytes from a place on
 abbrev pub part_at : List ℕ → ℕ → ℕ → List ℕ
 part_at s at n = take n (drop at s)
+
+-- the number of a kind of question, and the numbers that it is asked with: one step has none
+abbrev pub kind_in : Question → ℕ
+kind_in Step = 0
+kind_in (Address n) = 2
+kind_in (Lane n) = 3
+
+abbrev pub no_numbers : Numbers
+no_numbers = record { a0 = 0; a1 = 0; a2 = 0; a3 = 0; blob = 0 }
+
+abbrev pub carried : Question → Numbers
+carried Step = no_numbers
+carried (Address n) = n
+carried (Lane n) = n
 
 -- the bytes of a head: "a case of a kind other than 0 has, behind these lengths, four numbers of 8 bytes a0 to a3 and blob_len, 8 bytes"
 unfoldable pub head_bytes : ℕ → ℕ
@@ -17,7 +34,7 @@ head_bytes kind = if eqb kind 0 then 96 else 96 + 5 * 8
 -- z, p, x, flash, flash_rights, ram, ram_rights, "and behind everything the blob's bytes": each begins where the one before it ends
 module _ (c : Case) where
   abbrev pub vectors_at : ℕ
-  vectors_at = head_bytes c.question.kind
+  vectors_at = head_bytes (kind_in c.question)
 
   abbrev pub predicates_at : ℕ
   predicates_at = vectors_at + c.vectors
@@ -42,7 +59,7 @@ module _ (c : Case) where
 
   -- the whole case
   abbrev pub case_bytes : ℕ
-  case_bytes = blob_at + c.question.blob
+  case_bytes = blob_at + (carried c.question).blob
 
 -- the bench that a case lends; "x is x_count numbers of 8 bytes"
 module _ (s : List ℕ) (c : Case) where

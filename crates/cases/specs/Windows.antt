@@ -10,7 +10,7 @@ use Rattle.lanes.specs.declared.Kind.TheVariants.{Whole, Single, Double}
 use Rattle.lanes.specs.declared.Shown.{Shown}
 use Rattle.lanes.specs.declared.Shown.TheVariants as As
 use Rattle.steps.specs.Answers.{Report, report_with}
-use Rattle.cases.specs.declared.heads.Question.{Question}
+use Rattle.cases.specs.declared.heads.Numbers.{Numbers}
 
 -- "answer 0 empty, 1 flash, 2 RAM; count the offset in that area, element the length"
 abbrev pub place_report : Areas → Place → Report
@@ -19,7 +19,7 @@ place_report m (Ram k) = report_with 2 k (length m.ram.bytes - k) 0
 place_report m Nowhere = report_with 0 0 0 0
 
 -- kind 2: "a0 address"
-unfoldable pub address_told : Areas → Question → Report
+unfoldable pub address_told : Areas → Numbers → Report
 address_told m q = place_report m (shown_place m q.a0)
 
 -- "answer 0 no such lane, 1 whole, 2 single, 3 double; count the lane's bits"
@@ -33,7 +33,7 @@ abbrev pub shown_report : Shown → Report
 shown_report r = report_with (shown_number r) (bits_of r) 0 0
 
 -- "a0 register, a1 0 whole, 1 single, 2 double, a2 width in bits, a3 lane"; a lane that is asked for in another way is none
-abbrev pub asked_of : ℕ → List ℕ → Question → Shown
+abbrev pub asked_of : ℕ → List ℕ → Numbers → Shown
 asked_of vl z q =
     first_of
     ((eqb q.a1 0 ⇒ shown_of vl z q.a0 Whole q.a2 q.a3)
@@ -43,5 +43,5 @@ asked_of vl z q =
     As.NoLane
 
 -- kind 3
-unfoldable pub lane_told : ℕ → List ℕ → Question → Report
+unfoldable pub lane_told : ℕ → List ℕ → Numbers → Report
 lane_told vl z q = shown_report (asked_of vl z q)

@@ -1,21 +1,29 @@
 // The head of a case, in the byte format of docs/CASES.md: what it says, and what is wrong with it.
-ghost use Rattle.std.specs.Prelude.{◌≡◌};
-ghost use Rattle.cases.specs.Parts.{head_bytes};
-ghost use Rattle.cases.specs.Heads.{strange_flag, strange_kind, question_of, head_of, limited, marked_of, HeadPromise};
+ghost use Rattle.std.specs.Prelude.{◌≡◌, ◌≤◌};
+ghost use Rattle.cases.specs.Parts.{kind_in, carried, head_bytes, case_bytes};
+ghost use Rattle.cases.specs.Heads.{strange_flag, numbers_of, question_of, head_of, limited, marked_of, HeadPromise};
+ghost use Rattle.cases.specs.Inside.{Bounds, asked_of};
 
 use ground::number;
 use memory::{Address, Map};
 use steps::Settings;
 
-// What a case asks: the kind of question, by its number, and of one other than a step the numbers a0 to a3 and the blob's length.
+// What a window is asked: the numbers a0 to a3 that a case carries behind its lengths, and how long the blob behind its parts is.
 #[derive(Clone, Copy)]
-pub struct Question {
-    pub kind: u64,
+pub struct Numbers {
     pub a0: u64,
     pub a1: u64,
     pub a2: u64,
     pub a3: u64,
     pub blob: usize,
+}
+
+// What a case asks: one step, where an address lies, or what a lane holds.
+#[derive(Clone, Copy)]
+pub enum Question {
+    Step,
+    Address(Numbers),
+    Lane(Numbers),
 }
 
 // What the head of a case says: the word and the settings, where the areas start, how long each part is, and what is asked.
@@ -35,7 +43,7 @@ pub struct Case {
 }
 
 // The parts behind the head, in their order.
-#[derive(Clone, Copy)]
+#[derive(Clone, Copy, Debug, PartialEq, Eq)]
 pub enum Part {
     Vectors,
     Predicates,
@@ -48,7 +56,7 @@ pub enum Part {
 }
 
 // Why a case is not answered. `Room` is the caller's own: too few bytes lent for the outcome.
-#[derive(Clone, Copy)]
+#[derive(Clone, Copy, Debug, PartialEq, Eq)]
 pub enum Refusal {
     Ends,
     Magic,
@@ -59,54 +67,63 @@ pub enum Refusal {
     Room,
 }
 
-// What bytes open with: a case of so many bytes, its head among them, or no case.
+// A case that bytes open with, and how many of them it has, its head among them.
 #[derive(Clone, Copy)]
-pub enum Opened {
-    Begins(Case, usize),
-    Broken(Refusal),
+pub struct Opened {
+    pub case: Case,
+    pub whole: usize,
 }
 
-// How many bytes the head of a case of this kind has.
-pub(crate) fn head_bytes(kind: u64) -> usize
-    ensures { result ≡ head_bytes kind }
-{
-    if kind == 0 {
-        return 96;
+impl Question {
+    // How many bytes the head of a case has that asks it.
+    #[tactic(auto, unfolding(crate::specs::Parts::head_bytes))]
+    pub(crate) fn head_bytes(self) -> usize
+        ensures exactly { result ≡ head_bytes (kind_in self) }
+        ensures most { result ≤ 136 }
+    {
+        match self {
+            Question::Step => 96,
+            Question::Address(_) | Question::Lane(_) => 136,
+        }
     }
-    136
+
+    // .. and the blob behind its parts.
+    fn blob(self) -> usize
+        ensures { result ≡ (carried self).blob }
+    {
+        match self {
+            Question::Step => 0,
+            Question::Address(n) | Question::Lane(n) => n.blob,
+        }
+    }
+}
+
+impl Case {
+    // How many bytes the case has: its head and every part.
+    fn whole(self) -> usize
+        requires { Bounds self }
+        ensures { result ≡ case_bytes self }
+    {
+        let files = self.question.head_bytes() + self.vectors + self.predicates + 8 * self.scalars;
+        let areas = self.flash + self.flash_rights + self.ram + self.ram_rights;
+        files + areas + self.question.blob()
+    }
 }
 
 // Whether a flag bit is set that means nothing.
+#[tactic(auto, unfolding(crate::specs::Heads::strange_flag))]
 fn strange_flag(flags: u64) -> bool
     ensures { result ≡ strange_flag flags }
 {
     (7 < flags % 256) | (65535 < flags)
 }
 
-// Whether a kind means nothing here.
-fn strange_kind(kind: u64) -> bool
-    ensures { result ≡ strange_kind kind }
+// The numbers behind the lengths.
+#[tactic(auto, unfolding(crate::specs::Heads::numbers_of))]
+fn read_numbers(s: &[u8]) -> Numbers
+    ensures { result ≡ numbers_of s.now }
 {
-    (kind == 1) | (3 < kind)
-}
-
-// What is asked. A step has no numbers: what lies behind its lengths are its parts.
-fn read_question(s: &[u8]) -> Question
-    ensures { result ≡ question_of s.now }
-{
-    let kind = number(s, 8, 4) / 256 % 256;
-    if kind == 0 {
-        return Question {
-            kind: 0,
-            a0: 0,
-            a1: 0,
-            a2: 0,
-            a3: 0,
-            blob: 0,
-        };
-    }
-    Question {
-        kind,
+    Numbers {
         a0: number(s, 96, 8),
         a1: number(s, 104, 8),
         a2: number(s, 112, 8),
@@ -115,12 +132,26 @@ fn read_question(s: &[u8]) -> Question
     }
 }
 
+// What is asked, if its kind means something here. A step has no numbers: what lies behind its lengths are its parts.
+#[tactic(auto, unfolding(crate::specs::Inside::asked_of, crate::specs::Heads::strange_kind, crate::specs::Heads::question_of))]
+fn read_question(s: &[u8]) -> Result<Question, Refusal>
+    ensures { result ≡ asked_of s.now }
+{
+    match number(s, 8, 4) / 256 % 256 {
+        0 => Ok(Question::Step),
+        2 => Ok(Question::Address(read_numbers(s))),
+        3 => Ok(Question::Lane(read_numbers(s))),
+        _ => Err(Refusal::Kind),
+    }
+}
+
 // What a head says, field by field.
-fn read_head(s: &[u8]) -> Case
+#[tactic(auto, unfolding(crate::specs::Heads::head_of))]
+fn read_head(s: &[u8], question: Question) -> Case
+    requires { question ≡ question_of s.now }
     ensures { result ≡ head_of s.now }
 {
     let flags = number(s, 8, 4);
-    let question = read_question(s);
     Case {
         word: number(s, 4, 4) as u32,
         settings: Settings {
@@ -145,73 +176,61 @@ fn read_head(s: &[u8]) -> Case
 }
 
 // The case, if no part of it is too long.
-fn within_limits(case: Case) -> Opened
+fn within_limits(case: Case) -> Result<Opened, Refusal>
     ensures { result ≡ limited case }
 {
-    if 65536 < case.vectors {
-        return Opened::Broken(Refusal::Long(Part::Vectors));
+    let parts = [
+        (case.vectors, 65536, Part::Vectors),
+        (case.predicates, 4096, Part::Predicates),
+        (case.scalars, 128, Part::Scalars),
+        (case.flash, 131072, Part::Flash),
+        (case.flash_rights, 64, Part::FlashRights),
+        (case.ram, 131072, Part::Ram),
+        (case.ram_rights, 64, Part::RamRights),
+        (case.question.blob(), 65536, Part::Blob),
+    ];
+    for (length, limit, part) in parts {
+        if limit < length {
+            return Err(Refusal::Long(part));
+        }
     }
-    if 4096 < case.predicates {
-        return Opened::Broken(Refusal::Long(Part::Predicates));
-    }
-    if 128 < case.scalars {
-        return Opened::Broken(Refusal::Long(Part::Scalars));
-    }
-    if 131072 < case.flash {
-        return Opened::Broken(Refusal::Long(Part::Flash));
-    }
-    if 64 < case.flash_rights {
-        return Opened::Broken(Refusal::Long(Part::FlashRights));
-    }
-    if 131072 < case.ram {
-        return Opened::Broken(Refusal::Long(Part::Ram));
-    }
-    if 64 < case.ram_rights {
-        return Opened::Broken(Refusal::Long(Part::RamRights));
-    }
-    if 65536 < case.question.blob {
-        return Opened::Broken(Refusal::Long(Part::Blob));
-    }
-    let files = head_bytes(case.question.kind) + case.vectors + case.predicates + 8 * case.scalars;
-    Opened::Begins(
+    Ok(Opened {
         case,
-        files + case.flash + case.flash_rights + case.ram + case.ram_rights + case.question.blob,
-    )
+        whole: case.whole(),
+    })
 }
 
 // What 96 bytes or more open with that begin with the magic.
-fn marked(s: &[u8]) -> Opened
+#[tactic(auto, unfolding(crate::specs::Heads::marked_of, crate::specs::Inside::asked_of))]
+fn marked(s: &[u8]) -> Result<Opened, Refusal>
     ensures { result ≡ marked_of s.now }
 {
-    let flags = number(s, 8, 4);
-    let kind = flags / 256 % 256;
-    if strange_flag(flags) {
-        return Opened::Broken(Refusal::Flags);
+    if strange_flag(number(s, 8, 4)) {
+        return Err(Refusal::Flags);
     }
-    if strange_kind(kind) {
-        return Opened::Broken(Refusal::Kind);
-    }
+    let question = read_question(s)?;
     if 4 < number(s, 12, 4) {
-        return Opened::Broken(Refusal::Level);
+        return Err(Refusal::Level);
     }
-    if s.len() < head_bytes(kind) {
-        return Opened::Broken(Refusal::Ends);
+    if s.len() < question.head_bytes() {
+        return Err(Refusal::Ends);
     }
-    within_limits(read_head(s))
+    within_limits(read_head(s, question))
 }
 
 // What bytes open with: a case whose layout is here, or the first thing that is wrong.
-pub fn head(s: &[u8]) -> Opened
+#[tactic(auto, unfolding(crate::specs::Heads::opened_of))]
+pub fn head(s: &[u8]) -> Result<Opened, Refusal>
     ensures { HeadPromise s.now result }
 {
     if s.len() < 4 {
-        return Opened::Broken(Refusal::Ends);
+        return Err(Refusal::Ends);
     }
     if number(s, 0, 4) != 0x314A_4B4B {
-        return Opened::Broken(Refusal::Magic);
+        return Err(Refusal::Magic);
     }
     if s.len() < 96 {
-        return Opened::Broken(Refusal::Ends);
+        return Err(Refusal::Ends);
     }
     marked(s)
 }

@@ -6,7 +6,7 @@ ghost use Rattle.bench.specs.Lends.{bench_of};
 ghost use Rattle.cases.specs.Parts.{part_at, ram_at, case_bytes, lent_in, bench_in};
 ghost use Rattle.cases.specs.Inside.{step_length, step_in};
 
-use crate::heads::{Case, head_bytes};
+use crate::heads::Case;
 use crate::outcomes::{put_numbers, put_report, step_told};
 use ground::number;
 use steps::StepResult;
@@ -31,7 +31,7 @@ fn stepped(z: &mut [u8], x: &mut [u64], s: &[u8], case: Case) -> StepResult
         StepPromise l case.word (bench_in s.now case) result l
         (bench_of z.new x.new (part_at s.now (ram_at case) case.ram)) }
 {
-    let vectors_at = head_bytes(case.question.kind);
+    let vectors_at = case.question.head_bytes();
     let predicates_at = vectors_at + case.vectors;
     let scalars_at = predicates_at + case.predicates;
     let flash_at = scalars_at + 8 * case.scalars;

@@ -8,7 +8,7 @@ ghost use Rattle.cases.specs.Parts.{case_bytes, vectors_in, areas_in};
 ghost use Rattle.cases.specs.Windows.{place_report, address_told, shown_report, asked_of, lane_told};
 ghost use Rattle.cases.specs.Inside.{report_in};
 
-use crate::heads::{Case, Question, head_bytes};
+use crate::heads::{Case, Numbers};
 use crate::outcomes::Told;
 use lanes::{Kind, Shown};
 use memory::{Address, Map, Place};
@@ -57,11 +57,11 @@ fn place_told<'a>(
 }
 
 // Kind 2: the address window of the areas that a case lends.
-pub(crate) fn asked_address(s: &[u8], case: Case) -> Told
+pub(crate) fn asked_address(s: &[u8], case: Case, n: Numbers) -> Told
     requires { case_bytes case ≤ length s.now }
-    ensures { report_in result ≡ address_told (areas_in s.now case) case.question }
+    ensures { report_in result ≡ address_told (areas_in s.now case) n }
 {
-    let vectors_at = head_bytes(case.question.kind);
+    let vectors_at = case.question.head_bytes();
     let scalars_at = vectors_at + case.vectors + case.predicates;
     let flash_at = scalars_at + 8 * case.scalars;
     let flash_rights_at = flash_at + case.flash;
@@ -74,37 +74,33 @@ pub(crate) fn asked_address(s: &[u8], case: Case) -> Told
         &s[flash_rights_at..ram_at],
         &s[ram_at..ram_rights_at],
         &s[ram_rights_at..end],
-        Address(case.question.a0),
+        Address(n.a0),
     )
 }
 
 // What a lane holds. A lane of a register or of a width with so large a number is none.
-fn shown(vl: u64, z: &[u8], kind: Kind, q: Question) -> Shown
-    ensures { (result ≡ shown_of vl z.now q.a0 kind q.a2 q.a3) × NoNan result }
+fn shown(vl: u64, z: &[u8], kind: Kind, n: Numbers) -> Shown
+    ensures { (result ≡ shown_of vl z.now n.a0 kind n.a2 n.a3) × NoNan result }
 {
-    if 31 < q.a0 {
+    if 31 < n.a0 {
         return Shown::NoLane;
     }
-    if 64 < q.a2 {
+    if 64 < n.a2 {
         return Shown::NoLane;
     }
-    lanes::show(vl, z, q.a0 as u32, kind, q.a2 as u32, q.a3)
+    lanes::show(vl, z, n.a0 as u32, kind, n.a2 as u32, n.a3)
 }
 
 // .. as asked: whole, single or double.
-fn asked_shown(vl: u64, z: &[u8], q: Question) -> Shown
-    ensures { (result ≡ asked_of vl z.now q) × NoNan result }
+fn asked_shown(vl: u64, z: &[u8], n: Numbers) -> Shown
+    ensures { (result ≡ asked_of vl z.now n) × NoNan result }
 {
-    if q.a1 == 0 {
-        return shown(vl, z, Kind::Whole, q);
+    match n.a1 {
+        0 => shown(vl, z, Kind::Whole, n),
+        1 => shown(vl, z, Kind::Single, n),
+        2 => shown(vl, z, Kind::Double, n),
+        _ => Shown::NoLane,
     }
-    if q.a1 == 1 {
-        return shown(vl, z, Kind::Single, q);
-    }
-    if q.a1 == 2 {
-        return shown(vl, z, Kind::Double, q);
-    }
-    Shown::NoLane
 }
 
 // A number of 32 bits as one of 64.
@@ -143,11 +139,11 @@ fn lane_told(lane: Shown) -> Told
 }
 
 // Kind 3: the lane window of the vector file that a case lends.
-pub(crate) fn asked_lane(s: &[u8], case: Case) -> Told
+pub(crate) fn asked_lane(s: &[u8], case: Case, n: Numbers) -> Told
     requires { case_bytes case ≤ length s.now }
-    ensures { report_in result ≡ lane_told case.settings.vl (vectors_in s.now case) case.question }
+    ensures { report_in result ≡ lane_told case.settings.vl (vectors_in s.now case) n }
 {
-    let vectors_at = head_bytes(case.question.kind);
+    let vectors_at = case.question.head_bytes();
     let end = vectors_at + case.vectors;
-    lane_told(asked_shown(case.settings.vl, &s[vectors_at..end], case.question))
+    lane_told(asked_shown(case.settings.vl, &s[vectors_at..end], n))
 }

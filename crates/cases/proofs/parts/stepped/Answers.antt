@@ -8,7 +8,7 @@ pub returns : goal.returns
 returns c =
     let s = c.args.s.now in
     let k = c.args.case in
-    let e = c.head_bytes-vectors_at.ensures in
+    let e = c.head_bytes-vectors_at.ensures.exactly in
     let from = c.head_bytes-vectors_at.result in
     let predicates = from + k.vectors in
     let scalars = predicates + k.predicates in

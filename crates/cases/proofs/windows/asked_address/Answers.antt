@@ -11,11 +11,11 @@ unfolding address_told
 returns c =
     let k = c.args.case in
     let s = c.args.s.now in
-    let e = c.head_bytes-vectors_at.ensures in
+    let e = c.head_bytes-vectors_at.ensures.exactly in
     let flash = c.head_bytes-vectors_at.result + k.vectors + k.predicates + 8 * k.scalars in
     let flash_rights = flash + k.flash in
     let ram = flash_rights + k.flash_rights in
     c.place_told.ensures
-    ∙ ap (λ (m : Areas). place_report m (shown_place m k.question.a0))
+    ∙ ap (λ (m : Areas). place_report m (shown_place m c.args.n.a0))
     (as_areas s k (rw (← e) (cut s flash k.flash)) (rw (← e) (cut s flash_rights k.flash_rights))
     (rw (← e) (cut s ram k.ram)) (rw (← e) (cut s (ram + k.ram) k.ram_rights)))

@@ -10,7 +10,7 @@ use Rattle.cases.proofs.windows.asked_lane.Tie as tie
 
 -- the vector file's part lies within the bytes
 within : (c : tie.After-head_bytes-vectors_at) → let g = c.args in c.head_bytes-vectors_at.result + g.case.vectors ≤ length g.s.now
-within c = omega (arith, c.head_bytes-vectors_at.ensures, c.requires)
+within c = omega (arith, c.head_bytes-vectors_at.ensures.0, c.requires)
 
 pub asked_lane_spec : {M : Type 1} → statement M
 unfolding lane_told
@@ -19,4 +19,4 @@ asked_lane_spec =
     (λ c. search rules) (λ c. search rules) (λ c. within c.before) (λ c κs. tt) (λ c κs. c.asked_shown.ensures.1)
     (λ c.
     let t = c.before.before.before.before in
-    rw (c.lane_told.ensures, c.asked_shown.ensures.0, ← t.head_bytes-vectors_at.ensures) (rw (cut t.args.s.now t.head_bytes-vectors_at.result t.args.case.vectors))))
+    rw (c.lane_told.ensures, c.asked_shown.ensures.0, ← t.head_bytes-vectors_at.ensures.0) (rw (cut t.args.s.now t.head_bytes-vectors_at.result t.args.case.vectors))))
