@@ -13,7 +13,7 @@ use Rattle.ground.specs.Lists.{bytes_at}
 use Rattle.ground.proofs.Laws.{if_cases}
 use Rattle.cases.specs.Parts.{kind_in, carried, head_bytes, case_bytes}
 use Rattle.cases.specs.Heads.{magic, flags_in, kind_of, strange_flag, strange_kind, head_of, limited, marked_of, opened_of}
-use Rattle.cases.specs.Inside.{Bounds, WithinLimits}
+use Rattle.cases.specs.Inside.{Bounds}
 use Rattle.cases.specs.Outcomes.{outcome_length}
 use Rattle.cases.specs.declared.heads.Case.{Case}
 use Rattle.cases.specs.declared.heads.Part.{Part}
@@ -135,11 +135,20 @@ module _ (s : List ℕ) (P : Result Opened Refusal → Type 0) (no : (why : Refu
         };
       }))))))))))))))))
 
-pub within_limits : (s : List ℕ) → WithinLimits (opened_of s)
-within_limits s = opened s WithinLimits (λ why. tt) (λ g. (refl, g.bounds.vectors, g.bounds.scalars))
+-- so what bytes open with has as many bytes as its parts say, and no part is too long
+abbrev Within : Result Opened Refusal → Type 0
+Within (Err why) = Unit {0}
+Within (Ok o) = (o.whole ≡ case_bytes o.case) × Bounds o.case
 
-pub opened_within : (s : List ℕ) (o : Opened) → Ok o ≡ opened_of s → WithinLimits (Ok o)
-opened_within s o e = subst WithinLimits (sym e) (within_limits s)
+module _ (s : List ℕ) (o : Opened) (e : Ok o ≡ opened_of s) where
+  within : Within (Ok o)
+  within = subst Within (sym e) (opened s Within (λ why. tt) (λ g. (refl, g.bounds)))
+
+  pub opened_whole : o.whole ≡ case_bytes o.case
+  opened_whole = within.0
+
+  pub opened_bounds : Bounds o.case
+  opened_bounds = within.1
 
 -- the longest case and the longest outcome
 abbrev pub Longest : Result Opened Refusal → Type 0

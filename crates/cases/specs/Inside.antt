@@ -7,7 +7,6 @@ use Rattle.cases.specs.Parts.{carried, case_bytes, lent_in, bench_in}
 use Rattle.cases.specs.Heads.{flags_in, kind_of, strange_kind, question_of}
 use Rattle.cases.specs.Outcomes.{outcome_bytes}
 use Rattle.cases.specs.declared.heads.Case.{Case}
-use Rattle.cases.specs.declared.heads.Opened.{Opened}
 use Rattle.cases.specs.declared.heads.Refusal.{Refusal}
 use Rattle.cases.specs.declared.heads.Refusal.TheVariants.{Kind}
 use Rattle.cases.specs.declared.heads.Question.{Question}
@@ -27,11 +26,6 @@ pub record Bounds (c : Case) : Type 0 where
   pub ram : c.ram ≤ 131072
   pub ram_rights : c.ram_rights ≤ 64
   pub blob : (carried c.question).blob ≤ 65536
-
--- of a case that bytes open with: its length, and the limits of its vectors and scalars, so that no sum of theirs wraps
-abbrev pub WithinLimits : Result Opened Refusal → Type 0
-WithinLimits (Err why) = Unit {0}
-WithinLimits (Ok o) = (o.whole ≡ case_bytes o.case) × (o.case.vectors ≤ 65536) × (o.case.scalars ≤ 128)
 
 -- what is told, as a report
 abbrev pub report_in : Told → Report

@@ -176,6 +176,7 @@ fn read_head(s: &[u8], question: Question) -> Case
 }
 
 // The case, if no part of it is too long.
+#[tactic(auto, using(crate::proofs::Limits::short_past, crate::proofs::Limits::all_short))]
 fn within_limits(case: Case) -> Result<Opened, Refusal>
     ensures { result ≡ limited case }
 {
@@ -201,7 +202,7 @@ fn within_limits(case: Case) -> Result<Opened, Refusal>
 }
 
 // What 96 bytes or more open with that begin with the magic.
-#[tactic(auto, unfolding(crate::specs::Heads::marked_of, crate::specs::Inside::asked_of))]
+#[tactic(auto, using(crate::proofs::Opens::read_asked), unfolding(crate::specs::Heads::marked_of, crate::specs::Inside::asked_of))]
 fn marked(s: &[u8]) -> Result<Opened, Refusal>
     ensures { result ≡ marked_of s.now }
 {

@@ -9,6 +9,7 @@ mod windows;
 ghost use Rattle.std.specs.Prelude.{◌≤◌, ◌≡◌, length};
 ghost use Rattle.cases.specs.Parts.{case_bytes};
 ghost use Rattle.cases.specs.Outcomes.{outcome_length};
+ghost use Rattle.cases.specs.Inside.{Bounds};
 ghost use Rattle.cases.specs.Answers.{outcome_in, AnswerPromise};
 
 pub use heads::{Case, Numbers, Opened, Part, Question, Refusal, head};
@@ -23,7 +24,7 @@ pub struct Answered {
 // How many bytes the outcome of a case has.
 #[tactic(auto, unfolding(crate::specs::Outcomes::outcome_length))]
 fn outcome_bytes(case: Case) -> usize
-    requires { (case.vectors ≤ 65536) × (case.scalars ≤ 128) }
+    requires { Bounds case }
     ensures { result ≡ outcome_length case }
 {
     match case.question {
@@ -35,7 +36,7 @@ fn outcome_bytes(case: Case) -> usize
 #[tactic(auto, unfolding(crate::specs::Outcomes::outcome_length, crate::specs::Answers::outcome_in, crate::specs::Answers::answer_in, crate::specs::Inside::step_in))]
 // Answers a case of which every byte is there: its outcome over the first bytes of what is lent for it.
 fn put_answer(out: &mut [u8], s: &[u8], case: Case)
-    requires { (case.scalars ≤ 128) × (outcome_length case ≤ length out.old) × (case_bytes case ≤ length s.now) }
+    requires { Bounds case × (outcome_length case ≤ length out.old) × (case_bytes case ≤ length s.now) }
     ensures { out.new ≡ outcome_in s.now case out.old }
 {
     match case.question {
@@ -46,7 +47,7 @@ fn put_answer(out: &mut [u8], s: &[u8], case: Case)
 }
 
 // Answers the case that bytes open with: its outcome is written over the first bytes of `out`, or nothing is.
-#[tactic(auto, unfolding(crate::specs::Answers::after_case, crate::specs::Answers::on_case))]
+#[tactic(auto, using(crate::proofs::Limits::opened_whole), unfolding(crate::specs::Answers::after_case, crate::specs::Answers::on_case))]
 pub fn answer(s: &[u8], out: &mut [u8]) -> Result<Answered, Refusal>
     ensures { AnswerPromise s.now out.old result out.new }
 {
