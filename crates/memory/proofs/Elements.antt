@@ -5,7 +5,6 @@ use Rattle.ground.specs.Lists.{little}
 use Rattle.ground.proofs.Firsts.{AllGood, clear_or_first, handed_down}
 use Rattle.memory.specs.Addresses.{plus_of}
 use Rattle.memory.specs.Elements.{Reading, bad_at, reading_of, on_cell}
-use Rattle.memory.specs.declared.Address.{Address}
 use Rattle.memory.specs.declared.Fault.{Fault}
 use Rattle.memory.specs.declared.BadByte.{BadByte}
 use Rattle.memory.specs.Bytes.{Cell}

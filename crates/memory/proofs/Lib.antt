@@ -1,5 +1,4 @@
 -- What the proofs of this crate share, and its laws.
-pub mod Tests
 pub mod Places
 pub mod Turns
 pub mod Moves

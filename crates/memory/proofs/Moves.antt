@@ -1,7 +1,6 @@
--- Addresses: moving one is arithmetic modulo 2^64, and how the code moves it, by a magnitude less one and then one byte more.
-use Rattle.std.proofs.Common.{◌≡◌, ℕ, zero, suc, ◌+◌, ◌-◌, ◌%◌, ◌^◌, ◌<◌, ◌≤◌, Bool, true, false, cond, ltb, ℤ, pos, negsuc, ◌+ℤ◌, ◌-ℤ◌, neg_ℤ, sym, refl, ap, ◌∙◌, zero-add, arith, to_z-of_z, w64, SFits, to_z, of_z, ltb-false, ltb-true, lt-ltb}
-use lib.IntN.{sub_ℕ, neg_ℤ-neg_ℤ}
-use lib.Signed.{mag, lt_z}
+-- Addresses: moving one is arithmetic modulo 2^64, and so is the library's sum of an unsigned number and a signed one.
+use Rattle.std.proofs.Common.{◌≡◌, ℕ, zero, suc, ◌+◌, ◌-◌, ◌%◌, ◌^◌, ◌<◌, ◌≤◌, Bool, true, false, cond, ltb, ℤ, pos, negsuc, ◌+ℤ◌, neg_ℤ, refl, ◌∙◌, arith, to_z-of_z, w64, SFits, to_z, of_z, ltb-false, ltb-true}
+use lib.IntN.{sub_ℕ}
 use Rattle.memory.specs.Addresses.{wrap, wrapℤ, plus_of, moved_of}
 
 -- a difference of two numbers, by which is larger
@@ -47,9 +46,12 @@ wrap_round (pos a) = wrap_on (pos a) (2 ^ 64) ∙ omega arith
 wrap_round (negsuc a) = wrap_on (negsuc a) (2 ^ 64) ∙ omega arith
 
 -- ---- what the library's addition of a signed number to an unsigned one gives
-pub moved_signed : (a : ℕ) (z : ℤ) → SFits w64 z → (a + of_z w64 z) % 2 ^ 64 ≡ moved_of a z
+pub moved_signed : (a : ℕ) (z : ℤ) → SFits w64 z → (a + of_z w64 (to_z w64 (of_z w64 z))) % 2 ^ 64 ≡ moved_of a z
 unfolding moved_of
-moved_signed a (pos n) h = omega arith
-moved_signed a (negsuc n) h =
-    let l : suc n ≤ 2 ^ 63 = h.sfits in
-    sub_cases (λ (z : ℤ). (a + of_z w64 (negsuc n)) % 2 ^ 64 ≡ wrapℤ z) a (suc n) (λ k. omega arith) (λ k. omega arith)
+moved_signed a z h = rw (to_z-of_z h) (go z h)
+  where
+    go : (z : ℤ) → SFits w64 z → (a + of_z w64 z) % 2 ^ 64 ≡ wrapℤ (pos a +ℤ z)
+    go (pos n) h = omega arith
+    go (negsuc n) h =
+        let l : suc n ≤ 2 ^ 63 = h.sfits in
+        sub_cases (λ (y : ℤ). (a + of_z w64 (negsuc n)) % 2 ^ 64 ≡ wrapℤ y) a (suc n) (λ k. omega arith) (λ k. omega arith)

@@ -48,12 +48,9 @@ PlaceWithin fn rn (Some (Flash k)) = k < fn
 PlaceWithin fn rn (Some (Ram k)) = k < rn
 PlaceWithin fn rn None = Unit {0}
 
-place_inside : (f fn r rn a : ℕ) → PlaceWithin fn rn (place_of f fn r rn a)
+pub place_inside : (f fn r rn a : ℕ) → PlaceWithin fn rn (place_of f fn r rn a)
 unfolding place_of
 place_inside f fn r rn a =
     if_cases (PlaceWithin fn rn) (covers f fn a) (Some (Flash (a - f))) (if covers r rn a then Some (Ram (a - r)) else None)
     (λ e. let h = held f fn a e in omega arith)
     (λ _. if_cases (PlaceWithin fn rn) (covers r rn a) (Some (Ram (a - r))) None (λ e. let h = held r rn a e in omega arith) (λ _. tt))
-
-pub place_within : (f fn r rn a : ℕ) (p : Option Place) → place_of f fn r rn a ≡ p → PlaceWithin fn rn p
-place_within f fn r rn a p e = rw e at (place_inside f fn r rn a)

@@ -1,15 +1,15 @@
 -- What the public functions promise, in document 01's words. These laws are stated of the promises themselves, so that none of them can be
 -- exchanged for another together with its code. Those of the window are in Windows.
-use Rattle.std.proofs.Common.{◌≡◌, ℕ, ◌+◌, ◌-◌, ◌%◌, ◌^◌, ◌<◌, Bool, true, ◌↔◌, Ok, Err, get_or, pos, neg_ℤ, ◌∙◌}
+use Rattle.std.proofs.Common.{◌≡◌, ℕ, ◌+◌, ◌-◌, ◌%◌, ◌^◌, ◌<◌, Bool, true, ◌↔◌, List, Ok, Err, Bor, get_or, pos, neg_ℤ, refl, ◌∙◌}
 use Rattle.ground.specs.Lists.{little}
 use Rattle.ground.specs.declared.Size.{Size}
 use Rattle.ground.specs.Sizes.{bytes_of}
 use Rattle.memory.specs.declared.Address.{Address}
-use Rattle.memory.specs.declared.Fault.{Fault}
 use Rattle.memory.specs.declared.Fault.TheVariants.{Nowhere, Denied}
 use Rattle.memory.specs.declared.BadByte.{BadByte}
 use Rattle.memory.specs.Addresses.{plus_of, PlusPromise, MovedPromise}
-use Rattle.memory.specs.Areas.{Area, Areas, AreasAcceptedPromise}
+use Rattle.memory.specs.Areas.{Area, Areas, areas_of, areas_from, AreasAcceptedPromise}
+use Rattle.memory.specs.declared.Map.{Map}
 use Rattle.memory.specs.Bytes.{Cell, look_of, BytePromise}
 use Rattle.memory.specs.Elements.{Reading, ElementPromise}
 use Rattle.memory.specs.Said.{Holds, Right, AreasAccepted, OneOf}
@@ -32,6 +32,14 @@ module _ (a n : ℕ) (r : Address) where
 
 pub areas_accepted_said : (m : Areas) (r : Bool) → AreasAcceptedPromise m r → (r ≡ true) ↔ AreasAccepted m
 areas_accepted_said m r p = rw p (areas_exactly m)
+
+-- areas read off a value are those of the map and of what is lent
+pub areas_read : (w : Map) (flash flash_rights ram ram_rights : Bor (List ℕ))
+    → areas_of (record {
+      flash = record { start = w.flash; bytes = flash; rights = flash_rights };
+      ram = record { start = w.ram; bytes = ram; rights = ram_rights };
+    }) ≡ areas_from w flash.now flash_rights.now ram.now ram_rights.now
+areas_read w flash flash_rights ram ram_rights = refl
 
 module _ (m : Areas) (a : ℕ) (r : Cell) (p : BytePromise m a r) where
   pub byte_nowhere_said : (r ≡ Err Nowhere) ↔ ((Holds m.flash a → ⊥) × (Holds m.ram a → ⊥))

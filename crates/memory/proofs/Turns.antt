@@ -1,8 +1,8 @@
 -- One turn of `element`'s loop, over any look: what is read so far, with what the rest reads above it, is what the whole reads.
-use Rattle.std.proofs.Common.{◌≡◌, ℕ, zero, suc, ◌+◌, ◌-◌, ◌*◌, ◌%◌, ◌^◌, ◌<◌, ◌≤◌, Ok, Err, sym, refl, ap, ◌∙◌, add-zero, add_assoc, mul_assoc, mul_comm, one-mul, mul-zero, zero-add, mul-add, sub-one, arith, pow_mono, pow-add, shl_exact}
-use native.Mathlib.Nat.{sub-zero}
+use Rattle.std.proofs.Common.{◌≡◌, ℕ, zero, suc, ◌+◌, ◌-◌, ◌*◌, ◌%◌, ◌^◌, ◌<◌, ◌≤◌, Ok, Err, sym, refl, ap, ◌∙◌, add-zero, add_assoc, mul_assoc, mul_comm, mul-zero, mul-add, sub-one, arith, pow_mono, pow-add, shl_exact}
 use lib.Arith.{digits_lt}
-use Rattle.memory.specs.declared.Fault.{Fault}
+use Rattle.std.specs.Result.{MatchResult}
+use Rattle.memory.specs.declared.BadByte.{BadByte}
 use Rattle.memory.specs.Addresses.{plus_of}
 use Rattle.memory.specs.Bytes.{Cell}
 use Rattle.memory.specs.Elements.{Reading, bad_at, reading_of, with_low_byte, on_cell}
@@ -12,24 +12,15 @@ abbrev pub over : ℕ → ℕ → Reading → Reading
 over v s (Ok w) = Ok (v + s * w)
 over v s (Err x) = Err x
 
-over_none : (r : Reading) → r ≡ over 0 1 r
-over_none (Ok w) = ap Ok (sym (zero-add (1 * w) ∙ one-mul w))
-over_none (Err x) = refl
-
 over_low_byte : (v s b : ℕ) (r : Reading) → over v s (with_low_byte b r) ≡ over (v + b * s) (s * 256) r
 over_low_byte v s b (Ok w) = ap Ok (simp (mul-add, mul_assoc, add_assoc, mul_comm b s))
 over_low_byte v s b (Err x) = refl
 
 -- i of n bytes from a on are read, and v is their value
 pub record SoFar (look : ℕ → Cell) (a n v i : ℕ) : Type 0 where
-  pub count : i ≤ n
+  pub few : n ≤ 8
   pub fits : v < 2 ^ (8 * i)
   pub reads : reading_of look a n ≡ over v (2 ^ (8 * i)) (reading_of look (plus_of a i) (n - i))
-
-pub begun : (look : ℕ → Cell) (a n : ℕ) → a < 2 ^ 64 → SoFar look a n 0 0
-begun look a n l =
-    let e : plus_of a 0 ≡ a = omega arith in
-    record { count = omega arith; fits = omega arith; reads = rw e (simp sub-zero (over_none (reading_of look a n))) }
 
 one_more : (look : ℕ → Cell) (a n : ℕ) → 0 < n → reading_of look a n ≡ on_cell (look a) a (reading_of look (plus_of a 1) (n - 1))
 unfolding reading_of
@@ -49,18 +40,21 @@ scale i = ap (λ (k : ℕ). 2 ^ k) e ∙ pow-add 2 (8 * i) 8
     e = omega arith
 
 -- a turn: a byte is left to read
-module _ {look : ℕ → Cell} {a n v i : ℕ} (s : SoFar look a n v i) (more : i < n) (small : n ≤ 8) where
+module _ {look : ℕ → Cell} {a n v i : ℕ} (s : SoFar look a n v i) (more : i < n) where
   next : reading_of look (plus_of a i) (n - i) ≡ on_cell (look (plus_of a i)) (plus_of a i) (reading_of look (plus_of a (i + 1)) (n - (i + 1)))
   next =
       one_more look (plus_of a i) (n - i) (omega arith)
       ∙ (let e : n - i - 1 ≡ n - (i + 1) = omega arith in let f : plus_of (plus_of a i) 1 ≡ plus_of a (i + 1) = omega arith in rw (e, f))
 
-  pub bad_byte : (f : Fault) → look (plus_of a i) ≡ Err f → Err (bad_at f (plus_of a i)) ≡ reading_of look a n
-  bad_byte f e = sym (s.reads ∙ rw (next, e))
+  -- the byte is bad: what is told of it is why, and its address
+  pub bad_byte : (r : Cell) (at : ℕ) (x : BadByte) → at ≡ plus_of a i → r ≡ look at
+      → MatchResult r (λ b. ◌≡◌ {A = Reading} (Err x) (Ok b)) (λ f. x ≡ bad_at f at) → Err x ≡ reading_of look a n
+  bad_byte (Ok b) at x e h t = let z : ◌≡◌ {A = ℕ} 0 1 = cc in absurd (omega arith)
+  bad_byte (Err f) at x e h t = let u : look (plus_of a i) ≡ Err f = rw (← e) (sym h) in sym (s.reads ∙ rw (next, u, t, e))
 
   module _ (b : ℕ) (byte : b < 256) where
     shifted : (b * 2 ^ (8 * i)) % 2 ^ 64 ≡ b * 2 ^ (8 * i)
-    shifted = shl_exact 8 (8 * i) 64 byte (omega arith)
+    shifted = shl_exact 8 (8 * i) 64 byte (let h = s.few in omega arith)
 
     below : v + (b * 2 ^ (8 * i)) % 2 ^ 64 < 2 ^ (8 * (i + 1))
     below =
@@ -69,8 +63,10 @@ module _ {look : ℕ → Cell} {a n v i : ℕ} (s : SoFar look a n v i) (more : 
 
     pub in_word : v + (b * 2 ^ (8 * i)) % 2 ^ 64 < 2 ^ 64
     in_word =
-        let h : 8 * (i + 1) ≤ 64 = omega arith in
+        let h : 8 * (i + 1) ≤ 64 = (let h = s.few in omega arith) in
         omega (arith, below, pow_mono h)
 
-    pub turned : look (plus_of a i) ≡ Ok b → SoFar look a n (v + (b * 2 ^ (8 * i)) % 2 ^ 64) (i + 1)
-    turned e = record { count = omega arith; fits = below; reads = s.reads ∙ simp (next, e, shifted, scale, over_low_byte) }
+    pub turned : (at : ℕ) → at ≡ plus_of a i → Ok b ≡ look at → SoFar look a n (v + (b * 2 ^ (8 * i)) % 2 ^ 64) (i + 1)
+    turned at p q =
+        let e : look (plus_of a i) ≡ Ok b = rw (← p) (sym q) in
+        record { few = s.few; fits = below; reads = s.reads ∙ simp (next, e, shifted, scale, over_low_byte) }

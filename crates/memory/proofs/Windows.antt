@@ -1,12 +1,12 @@
 -- The address window: of areas that are accepted, the part from the address to the end of the area that holds it, and else an empty part.
-use Rattle.std.proofs.Common.{◌≡◌, ℕ, ◌-◌, true, false, List, [], Option, None, Some, length, drop, sym, refl, ◌∙◌, ⊎_elim, arith, length-drop, take_all, Bor}
+use Rattle.std.proofs.Common.{◌≡◌, ℕ, ◌-◌, true, false, List, [], Option, None, Some, length, drop, refl, ◌∙◌, ⊎_elim, arith, length-drop, take_all, Bor}
 use Rattle.ground.proofs.Laws.{true_or_false}
 use Rattle.memory.specs.declared.Place.{Place}
 use Rattle.memory.specs.declared.Place.TheVariants.{Flash, Ram}
 use Rattle.memory.specs.Areas.{Area, Areas, are_areas_accepted, place_in}
 use Rattle.memory.specs.Windows.{PartOf, Shows, shown_place, PlacePromise, WindowPromise}
 use Rattle.memory.specs.Said.{Holds, AreasAccepted, OneOf, in_flash, in_ram}
-use Rattle.memory.proofs.Places.{place_flash, place_ram, place_nowhere, PlaceWithin, place_within}
+use Rattle.memory.proofs.Places.{place_flash, place_ram, place_nowhere, PlaceWithin, place_inside}
 use Rattle.memory.proofs.Accepts.{areas_exactly}
 
 module _ (m : Areas) (a : ℕ) where
@@ -19,11 +19,11 @@ module _ (m : Areas) (a : ℕ) where
   shown_refused t = rw t
 
   -- a place that is shown lies within its area
-  pub shown_within : (p : Option Place) → shown_place m a ≡ p → PlaceWithin (length m.flash.bytes) (length m.ram.bytes) p
-  shown_within p e =
+  pub shown_within : PlaceWithin (length m.flash.bytes) (length m.ram.bytes) (shown_place m a)
+  shown_within =
       ⊎_elim
-      (λ t. place_within _ _ _ _ a p (sym (shown_accepted t) ∙ e))
-      (λ t. rw (← e, shown_refused t) tt)
+      (λ t. rw (shown_accepted t) (place_inside m.flash.start (length m.flash.bytes) m.ram.start (length m.ram.bytes) a))
+      (λ t. rw (shown_refused t) tt)
       (true_or_false (are_areas_accepted m))
 
 -- the place so many bytes into an area, and the slice that its bytes are lent in

@@ -5,7 +5,6 @@ use Rattle.ground.specs.Sizes.{bytes_of}
 use Rattle.memory.specs.Addresses.{plus_of}
 use Rattle.memory.specs.Areas.{Areas}
 use Rattle.memory.specs.Bytes.{Cell, look_of}
-use Rattle.memory.specs.declared.Address.{Address}
 use Rattle.memory.specs.declared.BadByte.{BadByte}
 use Rattle.memory.specs.declared.Fault.{Fault}
 

@@ -28,6 +28,7 @@ impl Address {
     }
 
     // The address d bytes on, or back.
+    #[tactic(auto, using(crate::proofs::Moves::moved_signed))]
     pub fn moved(self, d: i64) -> Address
         ensures { MovedPromise self.0 d result }
     {
@@ -96,11 +97,7 @@ impl<'a> Area<'a> {
         ensures { let r = area_of self.entry in result ≡ offset_in r.start (length r.bytes) a.0 }
     {
         let offset = a.0.checked_sub(self.start.0)?;
-        if offset < self.bytes.len() as u64 {
-            Some(offset as usize)
-        } else {
-            None
-        }
+        (offset < self.bytes.len() as u64).then_some(offset as usize)
     }
 
     // What a load finds at byte k: the byte, or that its page has no read right. Where no rights byte is lent for the page, there is none.
@@ -148,14 +145,14 @@ impl<'a> Areas<'a> {
     fn locate(self, a: Address) -> Option<Place>
         ensures { result ≡ place_in (areas_of self.entry) a.0 }
     {
-        if let Some(k) = self.flash.offset(a) {
-            return Some(Place::Flash(k));
+        match self.flash.offset(a) {
+            Some(k) => Some(Place::Flash(k)),
+            None => self.ram.offset(a).map(Place::Ram),
         }
-        self.ram.offset(a).map(Place::Ram)
     }
 
     // What a load finds at an address.
-    #[tactic(auto, unfolding(crate::specs::Bytes::look_of))]
+    #[tactic(auto, unfolding(crate::specs::Bytes::look_of), using(crate::proofs::Places::place_inside))]
     pub fn byte(self, a: Address) -> Result<u8, Fault>
         ensures { BytePromise (areas_of self.entry) a.0 result }
     {
@@ -173,10 +170,8 @@ impl<'a> Areas<'a> {
         let mut value = 0;
         for i in 0..size.bytes() {
             let at = a.plus(i);
-            match self.byte(at) {
-                Ok(byte) => value += u64::from(byte) << (8 * i),
-                Err(fault) => return Err(BadByte { fault, at }),
-            }
+            let byte = self.byte(at).map_err(|fault| BadByte { fault, at })?;
+            value += u64::from(byte) << (8 * i);
         }
         Ok(value)
     }
@@ -195,6 +190,8 @@ impl<'a> Areas<'a> {
 }
 
 // The address window: the stretch from a byte to its area's end, rights ignored.
+// It takes no Areas: flash and RAM have the lifetimes that they were lent for, and rights need not live as long as the part.
+#[tactic(auto, using(crate::proofs::Windows::shown_within))]
 pub fn window<'f, 'r: 'f>(
     map: Map,
     flash: &'f [u8],
@@ -221,12 +218,11 @@ pub fn window<'f, 'r: 'f>(
     match areas.shown_place(a) {
         Some(Place::Flash(k)) => &flash[k..],
         Some(Place::Ram(k)) => &ram[k..],
-        None => &flash[0..0],
+        None => &flash[..0],
     }
 }
 
-// The same window at one lifetime, for a caller who has RAM to write and lends it on beside flash, for as long as the part is looked at.
-// The borrow checker does not cover a call of `window`, with its two lifetimes, from there.
+// The same window with one lifetime named. `window` serves every caller of it too, and it stays for those who have it.
 pub fn window_beside<'a>(
     map: Map,
     flash: &'a [u8],
