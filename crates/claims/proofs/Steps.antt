@@ -3,13 +3,14 @@ use Prim.Native.Nat.{◌*◌, ℕ}
 use Rattle.memory.specs.declared.Address.{Address}
 use Rattle.memory.specs.declared.Fault.TheVariants.{Denied, Nowhere}
 use Rattle.steps.specs.Answers.{AnswerAddressPromise, AnswerElementPromise, AnswerNumberPromise, report_of, report_with}
-use Rattle.steps.specs.Benches.{AllowedPromise, Bench, InTypes, Lent, areas_in, is_accepted}
+use Rattle.steps.specs.Benches.{AllowedPromise, Bench, InTypes, Lent, areas_in, is_accepted, lent_of}
 use Rattle.steps.specs.Demand1.{OnAs, WideAs}
 use Rattle.steps.specs.Said.{Accepted}
 use Rattle.steps.specs.Step.{StepPromise, is_wide, step_of, switched_on}
 use Rattle.steps.specs.Terms.{block_bytes, scalar}
 use Rattle.steps.specs.declared.Answer.{Answer}
 use Rattle.steps.specs.declared.Answer.TheVariants.{Faulted, Outside, Ran, SetUp, Stack, SwitchedOff, Undefined}
+use Rattle.steps.specs.declared.Lent as L
 use Rattle.steps.specs.declared.StepResult.{StepResult}
 use Rattle.words.specs.declared.Shape.{Shape}
 use lib.ListN.{get_or}
@@ -29,6 +30,11 @@ promise_met = Rattle.steps.proofs.Promise.promise_met
 
 pub accepted_exactly : (l : Lent) (b : Bench) → (is_accepted l b ≡ true) ↔ Accepted l b
 accepted_exactly = Rattle.steps.proofs.Accepts.accepted_exactly
+
+-- What a caller lends is lent under its own name.
+pub lent_parts : (lent : L.Lent) → let l = lent_of lent in (l.settings ≡ lent.settings) × (l.predicates ≡ lent.predicates.now) × (l.map ≡ lent.map)
+    × (l.flash ≡ lent.flash.now) × (l.flash_rights ≡ lent.flash_rights.now) × (l.ram_rights ≡ lent.ram_rights.now)
+lent_parts = Rattle.steps.proofs.Terms.lent_parts
 
 -- The areas that the statements speak of are those lent.
 pub lent_areas : (l : Lent) (b : Bench)

@@ -5,9 +5,10 @@ use mathlib.Core.Bool.{true, false}
 use mathlib.Core.List.{List}
 use Prim.Native.Nat.{ℕ, ◌*◌}
 use lib.ListN.{get_or}
-use Rattle.steps.specs.Benches.{Lent, Bench, areas_in}
+use Rattle.steps.specs.Benches.{Lent, lent_of, Bench, areas_in}
 use Rattle.steps.specs.Answers.{report_with}
 use Rattle.steps.specs.Terms.{scalar, block_bytes}
+use Rattle.steps.specs.declared.Lent as L
 
 -- "33 numbers of 64 bits: X0 to X30, SP, PC": number n is the n-th, from 0
 pub scalar_said : (x : List ℕ) (n : ℕ) → scalar x n ≡ get_or x n 0
@@ -29,3 +30,9 @@ pub lent_areas : (l : Lent) (b : Bench)
       ram = record { start = l.map.ram.0; bytes = b.ram; rights = l.ram_rights };
     }
 lent_areas l b = refl
+
+-- what a caller lends is lent under its own name
+pub lent_parts : (lent : L.Lent) → let l = lent_of lent in
+    (l.settings ≡ lent.settings) × (l.predicates ≡ lent.predicates.now) × (l.map ≡ lent.map) × (l.flash ≡ lent.flash.now)
+    × (l.flash_rights ≡ lent.flash_rights.now) × (l.ram_rights ≡ lent.ram_rights.now)
+lent_parts lent = (refl, refl, refl, refl, refl, refl)
