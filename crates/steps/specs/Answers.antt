@@ -30,22 +30,12 @@ number_of (Faulted f a e) = fault_number f
 
 -- "Both carry its address and its lane. Other answers carry 0 for both."
 abbrev pub element_of : Answer → ℕ
-element_of Ran = 0
-element_of SetUp = 0
-element_of Outside = 0
-element_of Undefined = 0
-element_of SwitchedOff = 0
-element_of Stack = 0
 element_of (Faulted f a e) = e
+element_of other = 0
 
 abbrev pub address_of : Answer → ℕ
-address_of Ran = 0
-address_of SetUp = 0
-address_of Outside = 0
-address_of Undefined = 0
-address_of SwitchedOff = 0
-address_of Stack = 0
 address_of (Faulted f a e) = a.0
+address_of other = 0
 
 -- what `Answer::number` promises: the answer's number
 abbrev pub AnswerNumberPromise : Answer → ℕ → Type 0

@@ -26,7 +26,7 @@ pub fn allowed(vl: u64) -> bool
 }
 
 // How a step ended. A fault carries why, the first bad byte's address and its element's number.
-#[derive(Clone, Copy)]
+#[derive(Clone, Copy, Debug, PartialEq, Eq)]
 pub enum Answer {
     Ran,
     SetUp,
@@ -38,7 +38,7 @@ pub enum Answer {
 }
 
 // A step's result: the count of element reads beside the answer.
-#[derive(Clone, Copy)]
+#[derive(Clone, Copy, Debug, PartialEq, Eq)]
 pub struct StepResult {
     pub count: u64,
     pub answer: Answer,
@@ -54,6 +54,7 @@ fn fault_number(fault: Fault) -> u64
     }
 }
 
+// What a word earns that is no load.
 impl From<NotALoad> for Answer {
     ghost from_gives = { λ why answer. answer ≡ earned_by why };
 
