@@ -7,8 +7,6 @@ use lib.Dec.{ltb}
 use Rattle.ground.proofs.Laws.{only_one, if_cases}
 use Rattle.words.specs.Families.{read_of}
 use Rattle.words.specs.declared.Insn.{Insn}
-use Rattle.words.specs.declared.Decoded.{Decoded}
-use Rattle.words.specs.declared.Decoded.TheVariants.{Outside, Undefined, Is}
 use Rattle.words.specs.Ranges.{InsnInRange, InRange}
 use Rattle.words.proofs.Ranges.{in_range}
 use Rattle.steps.specs.Benches.{is_length_allowed}
@@ -16,13 +14,12 @@ use Rattle.steps.specs.Answers.{number_of}
 use Rattle.steps.specs.Plans.{plan_of}
 use Rattle.steps.specs.Said.{LengthAllowed}
 use Rattle.steps.specs.Inside.{PlanInRange}
-use Rattle.steps.specs.Step.{is_wide, switched_on, refusals, planned_load, planned_by, planned_of}
+use Rattle.steps.specs.Insns.{Decoded, Ok, Err}
+use Rattle.steps.specs.Step.{Planned, is_wide, switched_on, refusals, planned_load, planned_by, planned_of}
 use Rattle.steps.specs.declared.Answer.{Answer}
 use Rattle.steps.specs.declared.Answer.TheVariants.{SetUp}
 use Rattle.steps.specs.declared.Settings.{Settings}
 use Rattle.steps.specs.declared.Plan.{Plan}
-use Rattle.steps.specs.declared.Planned.{Planned}
-use Rattle.steps.specs.declared.Planned.TheVariants.{Stop, Go}
 use Rattle.steps.proofs.Plans.{plan_in_range}
 use Rattle.plans.specs.Prepares.{planned_for, PreparePromise}
 
@@ -35,14 +32,14 @@ allowed_planned s x w h = rw h
 
 -- "VL not allowed" earns 1
 pub not_allowed : (s : Settings) (x : List ℕ) (w : ℕ) → is_length_allowed s.vl ≡ false
-    → (a : Answer) × (planned_for s x w ≡ Stop a) × (number_of a ≡ 1)
+    → (a : Answer) × (planned_for s x w ≡ Err a) × (number_of a ≡ 1)
 unfolding planned_for
 not_allowed s x w h = (SetUp, rw h, refl)
 
 -- a fact of the plan of every load that is not refused holds of the plan of every word that has one
 abbrev Holding : (Plan → Type 0) → Planned → Type 0
-Holding P (Stop a) = Unit {0}
-Holding P (Go p) = P p
+Holding P (Err a) = Unit {0}
+Holding P (Ok p) = P p
 
 module _ (s : Settings) (x : List ℕ) (P : Plan → Type 0)
     (each : (i : Insn) → InsnInRange i → (is_wide i.shape && ltb s.vl 256) ≡ false → P (plan_of s.vl x i)) where
@@ -55,14 +52,13 @@ module _ (s : Settings) (x : List ℕ) (P : Plan → Type 0)
       (λ _. if_cases (Holding P) (is_wide i.shape && ltb s.vl 256) _ _ (λ _. tt) (λ long. each i h long)))
 
   of_word : (d : Decoded) → InRange d → Holding P (planned_by s x d)
-  of_word Outside h = tt
-  of_word Undefined h = tt
-  of_word (Is i) h = of_load i h
+  of_word (Err why) h = tt
+  of_word (Ok i) h = of_load i h
 
-  pub planned_each : (w : ℕ) (p : Plan) → planned_of s x w ≡ Go p → P p
+  pub planned_each : (w : ℕ) (p : Plan) → planned_of s x w ≡ Ok p → P p
   unfolding planned_of
   planned_each w p e = subst (Holding P) e (of_word (read_of w) (in_range w))
 
 -- a plan, where there is one, is sound
-pub planned_in_range : (s : Settings) (x : List ℕ) → LengthAllowed s.vl → (w : ℕ) (p : Plan) → planned_of s x w ≡ Go p → PlanInRange p
+pub planned_in_range : (s : Settings) (x : List ℕ) → LengthAllowed s.vl → (w : ℕ) (p : Plan) → planned_of s x w ≡ Ok p → PlanInRange p
 planned_in_range s x allowed = planned_each s x PlanInRange (λ i h _. plan_in_range s.vl x allowed i h i.shape h.shape)

@@ -8,7 +8,7 @@ use Prim.Native.Nat.{ℕ, ◌*◌, ◌/◌, ◌%◌, ◌≤◌, ◌<◌}
 use native.Mathlib.Nat.{one-mul, mul_assoc, mul-le-mul_right, dvd-mul_right, pos_of_dvd_of_pos}
 use native.Mathlib.Omega.{arith}
 use borrow.Author.Tests.{ltb-false}
-use lib.Dec.{eqb, ltb, lit≤}
+use lib.Dec.{ltb, lit≤}
 use Rattle.ground.specs.Sizes.{bytes_of}
 use Rattle.ground.proofs.Sizes.{whole_lanes, register_lanes}
 use Rattle.words.specs.declared.Dtype.{Dtype}
@@ -16,12 +16,12 @@ use Rattle.words.specs.declared.Insn.{Insn}
 use Rattle.words.specs.declared.Shape.{Shape}
 use Rattle.words.specs.declared.Shape.TheVariants.{Replicate, ByElement, Contiguous, Block}
 use Rattle.words.specs.Ranges.{ShapeInRange}
+use Rattle.steps.specs.Insns.{Ok}
 use Rattle.steps.specs.Terms.{block_bytes}
 use Rattle.steps.specs.Plans.{lanes_of, spread_of, plan_with}
 use Rattle.steps.specs.Said.{LengthAllowed}
 use Rattle.steps.specs.Step.{is_wide, planned_of}
 use Rattle.steps.specs.declared.Plan.{Plan}
-use Rattle.steps.specs.declared.Planned.TheVariants.{Go}
 use Rattle.steps.specs.declared.Settings.{Settings}
 use Rattle.steps.proofs.Actives.{block_bytes_lem}
 use Rattle.plans.specs.Inside.{Shaped}
@@ -49,12 +49,12 @@ module _ (vl : ℕ) (allowed : LengthAllowed vl) where
     pub plan_shaped : (s : Shape) → ShapeInRange i s → (is_wide s && ltb vl 256) ≡ false → Shaped (plan_with i (spread_of vl x i s)) (vl / 8)
     unfolding spread_of
     plan_shaped (Replicate q back) h long =
-        let r = replicates (eqb q 1) in
-        let n : ℕ = if eqb q 1 then 16 else 8 in
+        let r = replicates q in
+        let n : ℕ = if q then 16 else 8 in
         let e = whole_lanes i.element.lane n r.2 in
         record {
           room = rw e (omega (arith, r.1));
-          shape = (rw e r.0, ap (λ (d : Dtype). d.lane) h.2, ap (λ (d : Dtype). d.signed) h.2);
+          shape = (rw e r.0, ap (λ (d : Dtype). d.lane) h.1, ap (λ (d : Dtype). d.signed) h.1);
         }
     plan_shaped (ByElement imm6) h long =
         let e = register_lanes i.element.lane vl allowed.multiple in
@@ -72,6 +72,6 @@ module _ (vl : ℕ) (allowed : LengthAllowed vl) where
           shape = (omega (arith, one-mul k, mul-le-mul_right k b.1), rw e (block_bytes_lem wide).0);
         }
 
-pub planned_shaped : (s : Settings) (x : List ℕ) → LengthAllowed s.vl → (w : ℕ) (p : Plan) → planned_of s x w ≡ Go p → Shaped p (s.vl / 8)
+pub planned_shaped : (s : Settings) (x : List ℕ) → LengthAllowed s.vl → (w : ℕ) (p : Plan) → planned_of s x w ≡ Ok p → Shaped p (s.vl / 8)
 planned_shaped s x allowed =
     planned_each s x (λ p. Shaped p (s.vl / 8)) (λ i h long. plan_shaped s.vl allowed x i i.shape h.shape long)

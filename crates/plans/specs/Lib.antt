@@ -1,3 +1,4 @@
 -- What `prepare` promises, and what its plans are.
 pub mod Prepares
 pub mod Inside
+pub mod Spreads

@@ -1,232 +1,222 @@
-// The plan of a load, family by family: where element 0 lies, its elements, and the lanes that take one.
-ghost use Rattle.std.specs.Prelude.{◌≡◌, ◌*◌, ◌≤◌, ◌<◌};
+// What a load is about to do: what stops it, or its plan, family by family: where element 0 lies, its elements, and the lanes that take one.
+ghost use Rattle.std.specs.Prelude.{◌≡◌, ◌*◌, ◌^◌, ◌≤◌, not, unsigned_abs};
 ghost use Rattle.ground.specs.Sizes.{bytes_of};
-ghost use Rattle.words.specs.Ranges.{OffsetInRange, InsnInRange};
 ghost use Rattle.words.specs.declared.Shape.TheVariants.{ByElement, Contiguous, Block};
-ghost use Rattle.memory.specs.Addresses.{wrap};
 ghost use Rattle.steps.specs.Terms as Terms;
-ghost use Rattle.steps.specs.Plans.{start_of, amount_of, writes_back, lanes_of, replicated, spread_of, plan_with, plan_of};
+ghost use Rattle.steps.specs.Plans.{start_of, added_of, lanes_of, replicated, spread_of, plan_of};
+ghost use Rattle.steps.specs.Step.{is_wide, switched_on, planned_load};
 
-use ground::Size;
 use memory::Address;
-use steps::{Plan, Rule};
-use words::{Back, Insn, Offset, Shape};
+use steps::{Answer, Plan, Rule, Settings};
+use words::{Insn, Offset, Shape};
 
-// A scalar by its number: X0 to X30, SP, PC. Where there is none, 0.
-fn scalar(x: &[u64], n: u32) -> u64
-    ensures { result ≡ Terms.scalar x.now n }
-{
-    let at = n as usize;
-    if at < x.len() {
-        return x[at];
-    }
-    0
-}
-
-// A field of four bits as a signed number, from -8 to 7.
-fn signed(field: u32) -> i64
-    requires { field < 16 }
-    ensures { result ≡ Terms.signed4 field }
-{
-    if field < 8 {
-        return field as i64;
-    }
-    field as i64 - 16
-}
-
-// A number times a size in bytes, modulo 2^64.
-fn times(v: u64, size: Size) -> u64
-    ensures { result ≡ wrap (v * bytes_of size) }
-{
-    match size {
-        Size::B8 => v,
-        Size::B16 => v << 1,
-        Size::B32 => v << 2,
-        Size::B64 => v << 3,
-    }
-}
-
-// Where element 0 lies: an immediate counts blocks of so many bytes, a scalar counts elements.
-fn start(x: &[u64], rn: u32, size: Size, block: u64, offset: Offset) -> Address
-    requires offset_in_range { OffsetInRange offset }
-    requires block_bound { block ≤ 256 }
-    ensures { result.0 ≡ start_of x.now rn size block offset }
-{
-    let base = Address(scalar(x, rn));
-    match offset {
-        Offset::Imm(field) => base.moved(signed(field) * block as i64),
-        Offset::Reg(rm) => base.plus(times(scalar(x, rm), size)),
-    }
-}
-
-// What post-index adds: the sum of the reads, one for each register, where Rm is 31, else Xm.
-fn amount(x: &[u64], registers: u32, size: Size, back: Back) -> u64
-    requires { registers ≤ 4 }
-    ensures { result ≡ amount_of x.now (registers * bytes_of size) back }
-{
-    match back {
-        Back::Keep => 0,
-        Back::Post(rm) => {
-            if rm == 31 {
-                return registers as u64 * size.bytes();
-            }
-            scalar(x, rm)
-        }
-    }
-}
-
-// Whether the base is written back.
-fn writes(back: Back) -> bool
-    ensures { result ≡ writes_back back }
-{
-    match back {
-        Back::Keep => false,
-        Back::Post(_) => true,
-    }
-}
-
-// A plan: what its instruction has, and what its shape decides: where element 0 lies, its elements, the lanes that take one, the rule, the
-// lanes that the stack rule consults, and what is written back.
-fn plan_with(
-    insn: Insn,
+// What a load's shape decides of its plan: where element 0 lies, its elements, the lanes that take one, what decides, the lanes that the
+// stack rule consults, and what is added to the base where it is written back.
+#[derive(Clone, Copy)]
+struct Spread {
     start: Address,
     elements: u64,
     filled: u64,
     rule: Rule,
     consulted: u64,
-    back: bool,
-    amount: u64,
-) -> Plan
-    ensures { result
-        ≡ plan_with insn
-        (record { start = start.0; elements = elements; filled = filled; rule = rule; consulted = consulted; back = back; amount = amount }) }
+    back: Option<u64>,
+}
+
+// A field of four bits as a signed number, from -8 to 7.
+#[tactic(auto, unfolding(steps::specs::Terms::signed4))]
+fn signed(field: u32) -> i64
+    ensures value { result ≡ Terms.signed4 field }
+    ensures near { unsigned_abs result ≤ 2 ^ 32 }
 {
-    let element = insn.element;
-    let size = element.memory;
-    let lane = element.lane;
-    let governing = insn.governing;
-    Plan {
-        start,
-        size,
-        lane,
-        signed: element.signed,
-        elements,
-        filled,
-        rule,
-        consulted,
-        governing,
-        base: insn.base,
-        target: insn.target,
-        back,
-        amount,
+    let number = i64::from(field);
+    if field < 8 { number } else { number - 16 }
+}
+
+// A load that is about to be planned: the settings, at an allowed vector length, the scalars, and the instruction.
+#[derive(Clone, Copy)]
+pub(crate) struct Load<'a> {
+    pub settings: Settings,
+    pub x: &'a [u64],
+    pub insn: Insn,
+    ghost short: { settings.vl ≤ 2048 },
+    ghost few: { insn.registers ≤ 4 },
+}
+
+impl<'a> Load<'a> {
+    ghost use Rattle.plans.specs.Spreads.{spread_by};
+
+    // A scalar by its number: X0 to X30, SP, PC. Where there is none, 0.
+    fn scalar(self, n: u32) -> u64
+        ensures { result ≡ Terms.scalar self.entry.x.now n }
+    {
+        self.x.get(n as usize).copied().unwrap_or(0)
     }
-}
 
-// LD1R to LD4R: a read for each register, over 64 bits where Q is 0, else over 128.
-fn replicate(x: &[u64], insn: Insn, q: u32, back: Back) -> Plan
-    requires { insn.registers ≤ 4 }
-    ensures { result ≡ plan_with insn (replicated x.now insn q back) }
-{
-    let element = insn.element;
-    let size = element.memory;
-    let lane = element.lane;
-    let bytes = if q == 1 { 16 } else { 8 };
-    let filled = bytes / lane.bytes();
-    let start = Address(scalar(x, insn.base));
-    let elements = insn.registers as u64;
-    let added = amount(x, insn.registers, size, back);
-    plan_with(
-        insn,
-        start,
-        elements,
-        filled,
-        Rule::Always,
-        0,
-        writes(back),
-        added,
-    )
-}
+    // N, the lanes of a register.
+    fn lanes(self) -> u64
+        ensures { result ≡ lanes_of self.entry.settings.vl self.entry.insn.element.lane }
+    {
+        self.settings.vl / (8 * self.insn.element.lane.bytes())
+    }
 
-// N, the lanes of a register.
-fn lanes_in(vl: u64, lane: Size) -> u64
-    ensures { result ≡ lanes_of vl lane }
-{
-    vl / (8 * lane.bytes())
-}
+    // Where element 0 lies: an immediate counts blocks of so many bytes, a scalar counts elements.
+    fn start(self, block: u64, offset: Offset) -> Address
+        requires { block ≤ 2048 }
+        ensures { result.0 ≡ start_of self.entry.x.now self.entry.insn.base self.entry.insn.element.memory block offset }
+    {
+        let base = Address(self.scalar(self.insn.base));
+        match offset {
+            Offset::Imm(field) => base.moved(signed(field) * block as i64),
+            Offset::Reg(rm) => base.plus(
+                self.scalar(rm)
+                    .wrapping_mul(self.insn.element.memory.bytes()),
+            ),
+        }
+    }
 
-// LD1R by element: one read, imm6 elements on, and the lanes by their own bits.
-fn by_element(vl: u64, x: &[u64], insn: Insn, imm6: u32) -> Plan
-    ensures { result ≡ plan_with insn (spread_of vl x.now insn (ByElement imm6)) }
-{
-    let element = insn.element;
-    let memory = element.memory;
-    let lane = element.lane;
-    let n = lanes_in(vl, lane);
-    let base = Address(scalar(x, insn.base));
-    let start = base.plus(times(imm6 as u64, memory));
-    plan_with(insn, start, 1, n, Rule::LaneBit, n, false, 0)
-}
+    // What is added to the base where it is written back: the sum of the reads, one for each register, where Rm is 31, else Xm.
+    #[tactic(auto, using(ground::proofs::Sizes::bytes_few))]
+    fn added(self, back: Option<u32>) -> Option<u64>
+        ensures { result ≡ added_of self.entry.x.now (self.entry.insn.registers * bytes_of self.entry.insn.element.memory) back }
+    {
+        match back? {
+            31 => Some(u64::from(self.insn.registers) * self.insn.element.memory.bytes()),
+            rm => Some(self.scalar(rm)),
+        }
+    }
 
-// LD1: a read for each lane; the immediate counts vectors, as they lie in memory.
-fn contiguous(vl: u64, x: &[u64], insn: Insn, offset: Offset) -> Plan
-    requires offset_in_range { OffsetInRange offset }
-    requires memory_bound { bytes_of insn.element.memory ≤ bytes_of insn.element.lane }
-    requires vl_bound { vl ≤ 2048 }
-    ensures { result ≡ plan_with insn (spread_of vl x.now insn (Contiguous offset)) }
-{
-    let element = insn.element;
-    let memory = element.memory;
-    let lane = element.lane;
-    let n = lanes_in(vl, lane);
-    let first = start(x, insn.base, memory, n * memory.bytes(), offset);
-    plan_with(insn, first, n, n, Rule::ElementBit, n, false, 0)
-}
+    // LD1R to LD4R: a read for each register, over 64 bits where Q is 0, else over 128.
+    fn replicate(self, q: bool, back: Option<u32>) -> Spread
+        ensures { spread_by result ≡ replicated self.entry.x.now self.entry.insn q back }
+    {
+        let bytes = if q { 16 } else { 8 };
+        Spread {
+            start: Address(self.scalar(self.insn.base)),
+            elements: u64::from(self.insn.registers),
+            filled: bytes / self.insn.element.lane.bytes(),
+            rule: Rule::Always,
+            consulted: 0,
+            back: self.added(back),
+        }
+    }
 
-// A block in bytes.
-fn block_bytes(wide: bool) -> u64
-    ensures { result ≡ Terms.block_bytes wide }
-{
-    if wide { 32 } else { 16 }
-}
+    // LD1R by element: one read, imm6 elements on, and the lanes by their own bits.
+    #[tactic(auto, using(crate::proofs::Bounds::wrap_once), unfolding(steps::specs::Plans::spread_of))]
+    fn by_element(self, imm6: u32) -> Spread
+        ensures { spread_by result ≡ spread_of self.entry.settings.vl self.entry.x.now self.entry.insn (ByElement imm6) }
+    {
+        let n = self.lanes();
+        let base = Address(self.scalar(self.insn.base));
+        Spread {
+            start: base.plus(u64::from(imm6) * self.insn.element.memory.bytes()),
+            elements: 1,
+            filled: n,
+            rule: Rule::LaneBit,
+            consulted: n,
+            back: None,
+        }
+    }
 
-// LD1RQ and, where it is wide, LD1RO: a block, repeated as often as it goes into the register; the immediate counts blocks. The block's lanes
-// are read, and the stack rule consults every lane of the register.
-fn block(vl: u64, x: &[u64], insn: Insn, wide: bool, offset: Offset) -> Plan
-    requires offset_in_range { OffsetInRange offset }
-    requires vl_bound { vl ≤ 2048 }
-    ensures { result ≡ plan_with insn (spread_of vl x.now insn (Block wide offset)) }
-{
-    let element = insn.element;
-    let memory = element.memory;
-    let lane = element.lane;
-    let bytes = block_bytes(wide);
-    let k = bytes / lane.bytes();
-    let filled = vl / (8 * bytes) * k;
-    let first = start(x, insn.base, memory, bytes, offset);
-    let consulted = lanes_in(vl, lane);
-    plan_with(
-        insn,
-        first,
-        k,
-        filled,
-        Rule::ElementBit,
-        consulted,
-        false,
-        0,
-    )
-}
+    // LD1: a read for each lane; the immediate counts vectors, as they lie in memory.
+    #[tactic(auto, unfolding(steps::specs::Plans::spread_of))]
+    fn contiguous(self, offset: Offset) -> Spread
+        ensures { spread_by result ≡ spread_of self.entry.settings.vl self.entry.x.now self.entry.insn (Contiguous offset) }
+    {
+        let n = self.lanes();
+        Spread {
+            start: self.start(n * self.insn.element.memory.bytes(), offset),
+            elements: n,
+            filled: n,
+            rule: Rule::ElementBit,
+            consulted: n,
+            back: None,
+        }
+    }
 
-// The plan of an instruction.
-pub(crate) fn plan_of(vl: u64, x: &[u64], insn: Insn) -> Plan
-    requires insn_in_range { InsnInRange insn }
-    requires vl_bound { vl ≤ 2048 }
-    ensures { result ≡ plan_of vl x.now insn }
-{
-    let shape = insn.shape;
-    match shape {
-        Shape::Replicate { q, back } => replicate(x, insn, q, back),
-        Shape::ByElement { imm6 } => by_element(vl, x, insn, imm6),
-        Shape::Contiguous { offset } => contiguous(vl, x, insn, offset),
-        Shape::Block { wide, offset } => block(vl, x, insn, wide, offset),
+    // LD1RQ and, where it is wide, LD1RO: a block, repeated as often as it goes into the register; the immediate counts blocks. The block's lanes
+    // are read, and the stack rule consults every lane of the register.
+    #[tactic(auto, unfolding(steps::specs::Plans::spread_of))]
+    fn block(self, wide: bool, offset: Offset) -> Spread
+        ensures { spread_by result ≡ spread_of self.entry.settings.vl self.entry.x.now self.entry.insn (Block wide offset) }
+    {
+        let bytes = if wide { 32 } else { 16 };
+        let k = bytes / self.insn.element.lane.bytes();
+        Spread {
+            start: self.start(bytes, offset),
+            elements: k,
+            filled: self.settings.vl / (8 * bytes) * k,
+            rule: Rule::ElementBit,
+            consulted: self.lanes(),
+            back: None,
+        }
+    }
+
+    // What the load's shape decides, family by family.
+    #[tactic(auto, unfolding(steps::specs::Plans::spread_of))]
+    fn spread(self) -> Spread
+        ensures { spread_by result ≡ spread_of self.entry.settings.vl self.entry.x.now self.entry.insn self.entry.insn.shape }
+    {
+        match self.insn.shape {
+            Shape::Replicate { q, back } => self.replicate(q, back),
+            Shape::ByElement { imm6 } => self.by_element(imm6),
+            Shape::Contiguous { offset } => self.contiguous(offset),
+            Shape::Block { wide, offset } => self.block(wide, offset),
+        }
+    }
+
+    // The plan: what the instruction has, and what its shape decides.
+    fn plan(self) -> Plan
+        ensures { result ≡ plan_of self.entry.settings.vl self.entry.x.now self.entry.insn }
+    {
+        let insn = self.insn;
+        let spread = self.spread();
+        Plan {
+            start: spread.start,
+            size: insn.element.memory,
+            lane: insn.element.lane,
+            signed: insn.element.signed,
+            elements: spread.elements,
+            filled: spread.filled,
+            rule: spread.rule,
+            consulted: spread.consulted,
+            governing: insn.governing,
+            base: insn.base,
+            target: insn.target,
+            back: spread.back,
+        }
+    }
+
+    // Whether the load is LD1RO.
+    fn is_wide(self) -> bool
+        ensures { result ≡ is_wide self.entry.insn.shape }
+    {
+        matches!(self.insn.shape, Shape::Block { wide: true, .. })
+    }
+
+    // Whether the switch that the load asks is off: SIMD for LD1R to LD4R, SVE for any other.
+    fn switched_off(self) -> bool
+        ensures { result ≡ not (switched_on self.entry.settings self.entry.insn.shape) }
+    {
+        match self.insn.shape {
+            Shape::Replicate { .. } => !self.settings.simd,
+            _ => !self.settings.sve,
+        }
+    }
+
+    // What the load is about to do: 3 for want of F64MM, 4, 3 for short VL, or its plan.
+    #[tactic(auto, unfolding(steps::specs::Step::planned_load, steps::specs::Step::refusals))]
+    pub fn planned(self) -> Result<Plan, Answer>
+        ensures { result ≡ planned_load self.entry.settings self.entry.x.now self.entry.insn }
+    {
+        if self.is_wide() && !self.settings.f64mm {
+            return Err(Answer::Undefined);
+        }
+        if self.switched_off() {
+            return Err(Answer::SwitchedOff);
+        }
+        if self.is_wide() && self.settings.vl < 256 {
+            return Err(Answer::Undefined);
+        }
+        Ok(self.plan())
     }
 }
