@@ -1,5 +1,6 @@
 -- What is claimed of memory: which areas are accepted, one byte, one element, addresses, the address window.
 use Prim.Native.Nat.{◌%◌, ◌+◌, ◌-◌, ◌/◌, ◌<◌, ◌^◌, ◌≤◌, ℕ}
+use Rattle.std.specs.Prelude.{Err, None, Ok, Option}
 use Rattle.ground.specs.Lists.{little}
 use Rattle.ground.specs.Sizes.{bytes_of}
 use Rattle.ground.specs.declared.Size.{Size}
@@ -7,22 +8,15 @@ use Rattle.memory.proofs.Looks.{with_right}
 use Rattle.memory.proofs.Windows.{place_into, slice_of}
 use Rattle.memory.specs.Addresses.{MovedPromise, PlusPromise, moved_of, plus_of, wrap, wrapℤ}
 use Rattle.memory.specs.Areas.{Area, Areas, AreasAcceptedPromise, are_areas_accepted, area_limit, page_bytes, share_none}
-use Rattle.memory.specs.Bytes.{BytePromise, judged, look_of}
-use Rattle.memory.specs.Elements.{ElementPromise, reading_of}
+use Rattle.memory.specs.Bytes.{BytePromise, Cell, judged, look_of}
+use Rattle.memory.specs.Elements.{ElementPromise, Reading, reading_of}
 use Rattle.memory.specs.Said.{AreaAccepted, AreasAccepted, Both, Holds, OneOf, Right}
 use Rattle.memory.specs.Troubles.{FindsByte, byte_found}
 use Rattle.memory.specs.Windows.{PartOf, PlacePromise, Shows, WindowPromise}
 use Rattle.memory.specs.declared.Address.{Address}
-use Rattle.memory.specs.declared.Cell.TheVariants as C
-use Rattle.memory.specs.declared.Cell.TheVariants.{Bad, Byte}
-use Rattle.memory.specs.declared.Cell.{Cell}
+use Rattle.memory.specs.declared.BadByte.{BadByte}
 use Rattle.memory.specs.declared.Fault.TheVariants.{Denied, Nowhere}
-use Rattle.memory.specs.declared.Fault.{Fault}
-use Rattle.memory.specs.declared.Place.TheVariants.{Nowhere}
 use Rattle.memory.specs.declared.Place.{Place}
-use Rattle.memory.specs.declared.Reading.TheVariants as R
-use Rattle.memory.specs.declared.Reading.TheVariants.{Bad, Value}
-use Rattle.memory.specs.declared.Reading.{Reading}
 use denote.Ref.{Bor}
 use lib.IntN.{◌+ℤ◌, neg_ℤ, pos, ℤ}
 use lib.ListN.{drop, get_or, length}
@@ -49,25 +43,25 @@ overlap_shared = Rattle.memory.proofs.Accepts.overlap_shared
 pub areas_exactly : (m : Areas) → (are_areas_accepted m ≡ true) ↔ AreasAccepted m
 areas_exactly = Rattle.memory.proofs.Accepts.areas_exactly
 
-pub value_exactly : (look : ℕ → Cell) (a n : ℕ) (l : a < 2 ^ 64) → (v : ℕ) → (reading_of look a n ≡ Value v)
+pub value_exactly : (look : ℕ → Cell) (a n : ℕ) (l : a < 2 ^ 64) → (v : ℕ) → (reading_of look a n ≡ Ok v)
     ↔ (((k : ℕ) → k < n → FindsByte look (plus_of a k)) × (v ≡ little (λ k. byte_found (look (plus_of a k))) 0 n))
 value_exactly = Rattle.memory.proofs.Elements.value_exactly
 
-pub bad_exactly : (look : ℕ → Cell) (a n : ℕ) (l : a < 2 ^ 64) → (f : Fault) (x : Address) → (reading_of look a n ≡ Bad f x)
-    ↔ ((k : ℕ) × (k < n) × (look (plus_of a k) ≡ C.Bad f) × (x.0 ≡ plus_of a k) × ((j : ℕ) → j < k → FindsByte look (plus_of a j)))
+pub bad_exactly : (look : ℕ → Cell) (a n : ℕ) (l : a < 2 ^ 64) → (x : BadByte) → (reading_of look a n ≡ Err x)
+    ↔ ((k : ℕ) × (k < n) × (look (plus_of a k) ≡ Err x.fault) × (x.at.0 ≡ plus_of a k) × ((j : ℕ) → j < k → FindsByte look (plus_of a j)))
 bad_exactly = Rattle.memory.proofs.Elements.bad_exactly
 
 -- where flash holds the address, flash is looked at, whatever RAM holds
 pub flash_first : (m : Areas) (a : ℕ) → Holds m.flash a → look_of m a ≡ judged m.flash.bytes m.flash.rights (a - m.flash.start)
 flash_first = Rattle.memory.proofs.Looks.flash_first
 
-pub nowhere_exactly : (m : Areas) (a : ℕ) → (look_of m a ≡ Bad Nowhere) ↔ ((Holds m.flash a → ⊥) × (Holds m.ram a → ⊥))
+pub nowhere_exactly : (m : Areas) (a : ℕ) → (look_of m a ≡ Err Nowhere) ↔ ((Holds m.flash a → ⊥) × (Holds m.ram a → ⊥))
 nowhere_exactly = Rattle.memory.proofs.Looks.nowhere_exactly
 
-pub denied_exactly : (m : Areas) (t : AreasAccepted m) (a : ℕ) → (look_of m a ≡ Bad Denied) ↔ ((r : Area) × OneOf m r × Holds r a × (Right r a → ⊥))
+pub denied_exactly : (m : Areas) (t : AreasAccepted m) (a : ℕ) → (look_of m a ≡ Err Denied) ↔ ((r : Area) × OneOf m r × Holds r a × (Right r a → ⊥))
 denied_exactly = Rattle.memory.proofs.Looks.denied_exactly
 
-pub byte_exactly : (m : Areas) (t : AreasAccepted m) (a : ℕ) → (b : ℕ) → (look_of m a ≡ Byte b)
+pub byte_exactly : (m : Areas) (t : AreasAccepted m) (a : ℕ) → (b : ℕ) → (look_of m a ≡ Ok b)
     ↔ ((r : Area) × OneOf m r × Holds r a × Right r a × (b ≡ get_or r.bytes (a - r.start) 0))
 byte_exactly = Rattle.memory.proofs.Looks.byte_exactly
 
@@ -99,23 +93,23 @@ moved_back_said = Rattle.memory.proofs.Promises.moved_back_said
 pub areas_accepted_said : (m : Areas) (r : Bool) → AreasAcceptedPromise m r → (r ≡ true) ↔ AreasAccepted m
 areas_accepted_said = Rattle.memory.proofs.Promises.areas_accepted_said
 
-pub byte_nowhere_said : (m : Areas) (a : ℕ) (r : Cell) (p : BytePromise m a r) → (r ≡ C.Bad Nowhere) ↔ ((Holds m.flash a → ⊥) × (Holds m.ram a → ⊥))
+pub byte_nowhere_said : (m : Areas) (a : ℕ) (r : Cell) (p : BytePromise m a r) → (r ≡ Err Nowhere) ↔ ((Holds m.flash a → ⊥) × (Holds m.ram a → ⊥))
 byte_nowhere_said = Rattle.memory.proofs.Promises.byte_nowhere_said
 
-pub byte_denied_said : (m : Areas) (a : ℕ) (r : Cell) (p : BytePromise m a r) → AreasAccepted m → (r ≡ C.Bad Denied)
+pub byte_denied_said : (m : Areas) (a : ℕ) (r : Cell) (p : BytePromise m a r) → AreasAccepted m → (r ≡ Err Denied)
     ↔ ((q : Area) × OneOf m q × Holds q a × (Right q a → ⊥))
 byte_denied_said = Rattle.memory.proofs.Promises.byte_denied_said
 
-pub byte_found_said : (m : Areas) (a : ℕ) (r : Cell) (p : BytePromise m a r) → AreasAccepted m → (b : ℕ) → (r ≡ C.Byte b)
+pub byte_found_said : (m : Areas) (a : ℕ) (r : Cell) (p : BytePromise m a r) → AreasAccepted m → (b : ℕ) → (r ≡ Ok b)
     ↔ ((q : Area) × OneOf m q × Holds q a × Right q a × (b ≡ get_or q.bytes (a - q.start) 0))
 byte_found_said = Rattle.memory.proofs.Promises.byte_found_said
 
-pub element_value_said : (m : Areas) (a : ℕ) (s : Size) (r : Reading) (p : ElementPromise m a s r) (l : a < 2 ^ 64) → (v : ℕ) → (r ≡ R.Value v)
+pub element_value_said : (m : Areas) (a : ℕ) (s : Size) (r : Reading) (p : ElementPromise m a s r) (l : a < 2 ^ 64) → (v : ℕ) → (r ≡ Ok v)
     ↔ (((k : ℕ) → k < bytes_of s → FindsByte (look_of m) (plus_of a k)) × (v ≡ little (λ k. byte_found (look_of m (plus_of a k))) 0 (bytes_of s)))
 element_value_said = Rattle.memory.proofs.Promises.element_value_said
 
-pub element_bad_said : (m : Areas) (a : ℕ) (s : Size) (r : Reading) (p : ElementPromise m a s r) (l : a < 2 ^ 64) → (f : Fault) (x : Address)
-    → (r ≡ R.Bad f x) ↔ ((k : ℕ) × (k < bytes_of s) × (look_of m (plus_of a k) ≡ C.Bad f) × (x.0 ≡ plus_of a k)
+pub element_bad_said : (m : Areas) (a : ℕ) (s : Size) (r : Reading) (p : ElementPromise m a s r) (l : a < 2 ^ 64) → (x : BadByte)
+    → (r ≡ Err x) ↔ ((k : ℕ) × (k < bytes_of s) × (look_of m (plus_of a k) ≡ Err x.fault) × (x.at.0 ≡ plus_of a k)
     × ((j : ℕ) → j < k → FindsByte (look_of m) (plus_of a j)))
 element_bad_said = Rattle.memory.proofs.Promises.element_bad_said
 
@@ -171,20 +165,20 @@ right_own = Rattle.memory.proofs.Looks.right_own
 pub right_others : (r : Area) (a p v : ℕ) → ((a - r.start) / 4096 ≡ p → ⊥) → Right (with_right r p v) a ↔ Right r a
 right_others = Rattle.memory.proofs.Looks.right_others
 
-pub place_unique : (m : Areas) → (a : ℕ) (x y : Place) → PlacePromise m a x → PlacePromise m a y → x ≡ y
+pub place_unique : (m : Areas) → (a : ℕ) (x y : Option Place) → PlacePromise m a x → PlacePromise m a y → x ≡ y
 place_unique = Rattle.memory.proofs.Unique.place_unique
 
 -- the place that the window shows
-pub place_rest : (m : Areas) (a : ℕ) (q : Place) (w : PlacePromise m a q) → AreasAccepted m → {r : Area} (o : OneOf m r) → Holds r a
+pub place_rest : (m : Areas) (a : ℕ) (q : Option Place) (w : PlacePromise m a q) → AreasAccepted m → {r : Area} (o : OneOf m r) → Holds r a
     → q ≡ place_into o (a - r.start)
 place_rest = Rattle.memory.proofs.Windows.place_rest
 
-pub place_none : (m : Areas) (a : ℕ) (q : Place) (w : PlacePromise m a q) → (Holds m.flash a → ⊥) → (Holds m.ram a → ⊥) → q ≡ Nowhere
+pub place_none : (m : Areas) (a : ℕ) (q : Option Place) (w : PlacePromise m a q) → (Holds m.flash a → ⊥) → (Holds m.ram a → ⊥) → q ≡ None
 place_none = Rattle.memory.proofs.Windows.place_none
 
-pub place_none_refused : (m : Areas) (a : ℕ) (q : Place) (w : PlacePromise m a q) → (AreasAccepted m → ⊥) → q ≡ Nowhere
+pub place_none_refused : (m : Areas) (a : ℕ) (q : Option Place) (w : PlacePromise m a q) → (AreasAccepted m → ⊥) → q ≡ None
 place_none_refused = Rattle.memory.proofs.Windows.place_none_refused
 
 -- .. is that of the part that it hands out
-pub place_shows : (m : Areas) (a : ℕ) (q : Place) (w : PlacePromise m a q) → (flash ram p : Bor (List ℕ)) → WindowPromise m a flash ram p → Shows flash ram q p
+pub place_shows : (m : Areas) (a : ℕ) (q : Option Place) (w : PlacePromise m a q) → (flash ram p : Bor (List ℕ)) → WindowPromise m a flash ram p → Shows flash ram q p
 place_shows = Rattle.memory.proofs.Windows.place_shows
