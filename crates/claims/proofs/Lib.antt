@@ -14,3 +14,4 @@ pub mod Hosts
 pub mod Texts
 pub mod Cases
 pub mod Telling
+pub mod Shares

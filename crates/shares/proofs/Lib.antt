@@ -1,0 +1,2 @@
+-- The laws of shares.
+pub mod Unique

@@ -1,0 +1,2 @@
+-- What the contracts of a share are stated with.
+pub mod Shares
