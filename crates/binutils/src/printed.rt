@@ -1,10 +1,11 @@
 // How binutils prints the listed loads. The text of a load is made from its fields alone: its word is not in sight here.
 ghost use Rattle.std.specs.Prelude.{◌<◌};
 
-use crate::search::{find, has, has_at, part};
 use ground::Size;
-use texts::Text;
-use words::{Back, Governing, Insn, Offset, Shape};
+use memchr::memmem;
+use std::fmt;
+use std::fmt::Formatter;
+use words::{Dtype, Insn, Offset, Shape};
 
 // A size by its logarithm k: 2^k bytes.
 fn log(size: Size) -> u32
@@ -18,184 +19,165 @@ fn log(size: Size) -> u32
     }
 }
 
-// The letter of a size of 2^k bytes. That of four bytes depends on what has the size.
-fn letter(k: u32, four: u8) -> u8 {
-    match k {
-        0 => b'b',
-        1 => b'h',
-        2 => four,
-        _ => b'd',
+// The letter of a size. That of four bytes depends on what has the size.
+fn letter(size: Size, four: char) -> char {
+    match size {
+        Size::B8 => 'b',
+        Size::B16 => 'h',
+        Size::B32 => four,
+        Size::B64 => 'd',
     }
 }
 
-// What a capital letter of a form stands for: N a number, B a base register, E an element's size in memory and L a lane's, both by their
-// logarithm, and S whether the element is signed.
-fn piece(t: Text, capital: u8, v: u32) -> Text {
-    match capital {
-        b'N' => t.number(v as u64),
-        b'B' => {
-            if v == 31 {
-                return t.and(b"sp");
-            }
-            t.and(b"x").number(v as u64)
+// A load, as binutils prints it.
+#[derive(Clone, Copy)]
+pub(crate) struct Load(pub(crate) Insn);
+
+// The base register of a load.
+#[derive(Clone, Copy)]
+struct Base(u32);
+
+impl fmt::Display for Base {
+    fn fmt<W: fmt::Write>(&self, f: &mut Formatter<W>) -> fmt::Result {
+        match self.0 {
+            31 => write!(f, "sp"),
+            n => write!(f, "x{n}"),
         }
-        b'E' => t.and(&[letter(v, b'w')]),
-        b'L' => t.and(&[letter(v, b's')]),
-        b'S' => {
-            if v == 0 {
-                return t;
-            }
-            t.and(b"s")
-        }
-        _ => t,
     }
 }
 
-// A text with a form behind it: the form's own bytes, and the next value for each capital letter.
-fn filled(start: Text, form: &[u8], values: &[u32]) -> Text {
-    let mut t = start;
-    let mut i = 0;
-    let mut next = 0;
-    while i < form.len() {
-        let c = form[i];
-        if (b'A' <= c) & (c <= b'Z') {
-            if next < values.len() {
-                t = piece(t, c, values[next]);
-                next += 1;
-            }
-        } else {
-            t = t.and(&[c]);
-        }
-        i += 1;
+// What every load has behind its last target: the predicate where one governs it, and its base.
+fn based<W: fmt::Write>(f: &mut Formatter<W>, insn: Insn) -> fmt::Result {
+    write!(f, "}}")?;
+    if let Some(pg) = insn.governing {
+        write!(f, ", p{pg}/z")?;
     }
-    t
+    write!(f, ", [{}", Base(insn.base))
 }
 
-// The text of a load up to its last target, with what every load has behind that: the predicate where one governs it, and its base.
-fn based(t: Text, insn: Insn) -> Text {
-    let listed = t.and(b"}");
-    let governing = insn.governing;
-    let governed = match governing {
-        Governing::None => listed,
-        Governing::By(pg) => filled(listed, b", pN/z", &[pg]),
-    };
-    filled(governed, b", [B", &[insn.base])
-}
-
-// An SVE load of this name and of elements of 2^k bytes in memory, up to its base.
-fn sve(name: &[u8], k: u32, insn: Insn) -> Text {
+// An SVE load of this name, up to its base.
+fn sve<W: fmt::Write>(f: &mut Formatter<W>, name: &str, insn: Insn) -> fmt::Result {
     let element = insn.element;
-    let lane = element.lane;
-    let sign = if element.signed { 1 } else { 0 };
-    let values = [sign, k, insn.target, log(lane)];
-    based(filled(Text::of(name), b"SE {zN.L", &values), insn)
+    let sign = if element.signed { "s" } else { "" };
+    let memory = letter(element.memory, 'w');
+    let target = insn.target;
+    let lane = letter(element.lane, 's');
+    write!(f, "{name}{sign}{memory} {{z{target}.{lane}")?;
+    based(f, insn)
 }
 
-// A v register of so many lanes of 2^k bytes.
-fn vector(t: Text, register: u32, lanes: u32, k: u32) -> Text {
-    filled(t, b"vN.NL", &[register, lanes, k])
+// A v register. q chooses 16 bytes of lanes, or 8. How many lanes is told by the element's size in memory, and their letter by the lane's: so the
+// line tests both.
+fn vector<W: fmt::Write>(
+    f: &mut Formatter<W>,
+    register: u32,
+    element: Dtype,
+    q: bool,
+) -> fmt::Result {
+    let width = if q { 16u32 } else { 8 };
+    let lanes = width >> log(element.memory);
+    let lane = letter(element.lane, 's');
+    write!(f, "v{register}.{lanes}{lane}")
 }
 
-// So many v registers from the first on. binutils prints three and more as the first and the last, but for a list that passes from 31
-// to 0: there, as where there are two, each is printed.
-fn vectors(start: Text, first: u32, registers: u32, lanes: u32, k: u32) -> Text {
-    let mut t = vector(start, first, lanes, k);
-    let end = std::num::wrapping_add_u32(first, registers);
-    if (2 < registers) & (end <= 32) {
-        let last = std::num::wrapping_sub_u32(end, 1);
-        return vector(t.and(b"-"), last, lanes, k);
-    }
-    let mut i = 1;
-    while i < registers {
-        let next = std::num::wrapping_add_u32(first, i) % 32;
-        t = vector(t.and(b", "), next, lanes, k);
-        i += 1;
-    }
-    t
-}
-
-// What LD1R to LD4R add to their base afterwards. Register 31 stands for the bytes that are read.
-fn written(t: Text, back: Back, bytes: u32) -> Text {
-    match back {
-        Back::Keep => t,
-        Back::Post(rm) => {
-            if rm == 31 {
-                return filled(t, b", #N", &[bytes]);
-            }
-            filled(t, b", xN", &[rm])
-        }
-    }
-}
-
-// LD1R to LD4R of elements of 2^k bytes, one for each register. q chooses 16 bytes of lanes, or 8. How many lanes is told by the
-// element's size in memory, and their letter by the lane's: so the line tests both.
-fn replicated(insn: Insn, k: u32, q: u32, back: Back) -> Text
-    requires { k < 32 }
-{
+// The v registers of a load. binutils prints three and more as the first and the last, but for a list that passes from 31 to 0: there, as where
+// there are two, each is printed.
+fn vectors<W: fmt::Write>(f: &mut Formatter<W>, insn: Insn, q: bool) -> fmt::Result {
     let element = insn.element;
-    let lane = element.lane;
+    let last = insn.target.wrapping_add(insn.registers).wrapping_sub(1);
+    vector(f, insn.target, element, q)?;
+    if insn.registers > 2 && last < 32 {
+        write!(f, "-")?;
+        return vector(f, last, element, q);
+    }
+    for i in 1..insn.registers {
+        write!(f, ", ")?;
+        vector(f, insn.target.wrapping_add(i) % 32, element, q)?;
+    }
+    Ok(())
+}
+
+// LD1R to LD4R. What they add to their base afterwards is a register, and 31 stands for the bytes that are read.
+fn replicated<W: fmt::Write>(
+    f: &mut Formatter<W>,
+    insn: Insn,
+    q: bool,
+    back: Option<u32>,
+) -> fmt::Result {
     let registers = insn.registers;
-    let width = if q == 0 { 8 } else { 16 };
-    let name = filled(Text::of(b"ld"), b"Nr {", &[registers]);
-    let list = vectors(name, insn.target, registers, width >> k, log(lane));
-    written(based(list, insn).and(b"]"), back, registers << k)
+    write!(f, "ld{registers}r {{")?;
+    vectors(f, insn, q)?;
+    based(f, insn)?;
+    write!(f, "]")?;
+    match back {
+        None => Ok(()),
+        Some(31) => {
+            let bytes = registers << log(insn.element.memory);
+            write!(f, ", #{bytes}")
+        }
+        Some(rm) => write!(f, ", x{rm}"),
+    }
 }
 
-// A signed field of four bits, times 2^k, and what is printed behind it. Zero is not printed.
-fn signed(t: Text, imm4: u32, k: u32, behind: &[u8]) -> Text
-    requires { k < 32 }
-{
-    let n = imm4 % 16;
+// A signed field of four bits, times the unit. Zero is not printed, nor what stands behind it.
+fn signed<W: fmt::Write>(f: &mut Formatter<W>, imm4: u32, unit: u8, behind: &str) -> fmt::Result {
+    let field = i64::from(imm4 % 16);
+    let n = if field < 8 { field } else { field - 16 };
     if n == 0 {
-        return t.and(b"]");
+        return write!(f, "]");
     }
-    if n < 8 {
-        return filled(t, b", #N", &[n << k]).and(behind);
-    }
-    filled(t, b", #-N", &[(16 - n) << k]).and(behind)
+    let offset = n * i64::from(unit);
+    write!(f, ", #{offset}{behind}")
 }
 
-// The offset of a load of elements of 2^k bytes: a scalar counts elements, and an immediate is printed times 2^unit.
-fn placed(t: Text, offset: Offset, k: u32, unit: u32, behind: &[u8]) -> Text
-    requires { unit < 32 }
-{
+// The offset of a load: a scalar counts elements, and an immediate is printed times the unit.
+fn placed<W: fmt::Write>(
+    f: &mut Formatter<W>,
+    insn: Insn,
+    offset: Offset,
+    unit: u8,
+    behind: &str,
+) -> fmt::Result {
+    let k = log(insn.element.memory);
     match offset {
-        Offset::Imm(imm4) => signed(t, imm4, unit, behind),
-        Offset::Reg(rm) => {
-            if k == 0 {
-                return filled(t, b", xN]", &[rm]);
+        Offset::Imm(imm4) => signed(f, imm4, unit, behind),
+        Offset::Reg(rm) if k == 0 => write!(f, ", x{rm}]"),
+        Offset::Reg(rm) => write!(f, ", x{rm}, lsl #{k}]"),
+    }
+}
+
+impl fmt::Display for Load {
+    fn fmt<W: fmt::Write>(&self, f: &mut Formatter<W>) -> fmt::Result {
+        let insn = self.0;
+        match insn.shape {
+            Shape::Replicate { q, back } => replicated(f, insn, q, back),
+            // the field counts elements, and bytes are printed
+            Shape::ByElement { imm6 } => {
+                sve(f, "ld1r", insn)?;
+                if imm6 == 0 {
+                    return write!(f, "]");
+                }
+                let bytes = imm6 << log(insn.element.memory);
+                write!(f, ", #{bytes}]")
             }
-            filled(t, b", xN, lsl #N]", &[rm, k])
+            // the immediate counts whole vectors, and is printed so
+            Shape::Contiguous { offset } => {
+                sve(f, "ld1", insn)?;
+                placed(f, insn, offset, 1, ", mul vl]")
+            }
+            // the immediate counts blocks of 32 bytes, or of 16, and bytes are printed
+            Shape::Block { wide, offset } => {
+                let (name, unit) = if wide { ("ld1ro", 32) } else { ("ld1rq", 16) };
+                sve(f, name, insn)?;
+                placed(f, insn, offset, unit, "]")
+            }
         }
     }
 }
 
-// The text of a load.
-pub(crate) fn load(insn: Insn) -> Text {
-    let element = insn.element;
-    let memory = element.memory;
-    let k = log(memory);
-    let shape = insn.shape;
-    match shape {
-        Shape::Replicate { q, back } => replicated(insn, k, q, back),
-        // the field counts elements, and bytes are printed
-        Shape::ByElement { imm6 } => {
-            let t = sve(b"ld1r", k, insn);
-            if imm6 == 0 {
-                return t.and(b"]");
-            }
-            filled(t, b", #N]", &[imm6 << k])
-        }
-        // the immediate counts whole vectors, and is printed so
-        Shape::Contiguous { offset } => placed(sve(b"ld1", k, insn), offset, k, 0, b", mul vl]"),
-        // the immediate counts blocks of 32 bytes, or of 16, and bytes are printed
-        Shape::Block { wide, offset } => {
-            if wide {
-                return placed(sve(b"ld1ro", k, insn), offset, k, 5, b"]");
-            }
-            placed(sve(b"ld1rq", k, insn), offset, k, 4, b"]")
-        }
-    }
+// Whether these bytes stand anywhere in others.
+fn has(s: &[u8], these: &[u8]) -> bool {
+    memmem::find(s, these).is_some()
 }
 
 // Whether a text that binutils prints is a listed load: LDnR of v registers, whatever n is; or one of these mnemonics, of one z register,
@@ -204,14 +186,13 @@ pub(crate) fn listed(text: &[u8]) -> bool {
     let one =
         b"ld1b ld1h ld1w ld1d ld1sb ld1sh ld1sw ld1rb ld1rh ld1rw ld1rd ld1rsb ld1rsh ld1rsw ";
     let many = b"ld1rqb ld1rqh ld1rqw ld1rqd ld1rob ld1roh ld1row ld1rod ";
-    if has_at(text, 0, b"ld") & has_at(text, 3, b"r {v") {
+    if text.starts_with(b"ld") && text.get(3..).is_some_and(|rest| rest.starts_with(b"r {v")) {
         return true;
     }
-    let end = find(text, b" {z");
-    if end == text.len() {
+    let Some(end) = memmem::find(text, b" {z") else {
         return false;
-    }
-    let name = part(text, 0, std::num::wrapping_add_usize(end, 1));
-    let vector = has(text, b"[z") | has(text, b", z") | has(text, b"{za");
-    has_at(name, 0, b"ld1") & (has(one, name) | has(many, name)) & !vector
+    };
+    let name = &text[..end + 1];
+    let vector = has(text, b"[z") || has(text, b", z") || has(text, b"{za");
+    name.starts_with(b"ld1") && (has(one, name) || has(many, name)) && !vector
 }
