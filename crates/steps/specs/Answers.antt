@@ -14,7 +14,7 @@ abbrev pub fault_number : Fault → ℕ
 fault_number Nowhere = 6
 fault_number Denied = 7
 
--- the answer that a word which is no load earns: "2 .. or 3 from the word"
+-- the answer that a word earns which is no load: 2 where no row has it, 3 where its row leaves it undefined
 abbrev pub earned_by : NotALoad → Answer
 earned_by N.Outside = Outside
 earned_by N.Undefined = Undefined
