@@ -9,14 +9,14 @@ ghost use Rattle.ground.specs.Pieces.{bits};
 use ground::Size;
 
 // What an SVE load adds to its base: a field of four bits, signed, that counts blocks; or a scalar register.
-#[derive(Clone, Copy)]
+#[derive(Clone, Copy, Debug, PartialEq, Eq)]
 pub enum Offset {
     Imm(u32),
     Reg(u32),
 }
 
 // A row of the dtype table: an element's size in memory, its lane's, and whether its sign is extended.
-#[derive(Clone, Copy)]
+#[derive(Clone, Copy, Debug, PartialEq, Eq)]
 pub struct Dtype {
     pub memory: Size,
     pub lane: Size,
@@ -25,7 +25,7 @@ pub struct Dtype {
 
 // What an instruction of one shape has beside what all have. Replicate is LD1R to LD4R, of all 128 bits where q, and back is Rm where it is
 // post-index by Rm; Contiguous is LD1; Block is LD1RQ, and LD1RO where it is wide.
-#[derive(Clone, Copy)]
+#[derive(Clone, Copy, Debug, PartialEq, Eq)]
 pub enum Shape {
     Replicate { q: bool, back: Option<u32> },
     ByElement { imm6: u32 },
@@ -35,7 +35,7 @@ pub enum Shape {
 
 // An instruction: what every load has, and its shape. It loads so many registers, from the target on; 31 is followed by 0. Governing is its
 // predicate register: LD1R to LD4R have none.
-#[derive(Clone, Copy)]
+#[derive(Clone, Copy, Debug, PartialEq, Eq)]
 pub struct Insn {
     pub element: Dtype,
     pub base: u32,
