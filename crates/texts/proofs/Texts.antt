@@ -1,6 +1,6 @@
 -- What is behind a text, how many digits a number has, and whether two lists are the same.
 use mathlib.Core.Path.{◌≡◌, refl, sym, ◌∙◌, ap}
-use mathlib.Core.Bool.{Bool, true, false}
+use mathlib.Core.Bool.{Bool, true}
 use mathlib.Core.List.{List, ◌++◌}
 use Prim.Native.Nat.{ℕ, zero, suc, ◌+◌, ◌-◌, ◌*◌, ◌/◌, ◌^◌, ◌≤◌, ◌<◌, min}
 use mathlib.Core.Logic.{◌↔◌, ⊎_elim}
@@ -9,9 +9,9 @@ use native.Mathlib.Omega.{arith}
 use borrow.Author.Tests.{ltb-true, ltb-false, lt-ltb, le-ltb}
 use lib.Dec.{ltb, lit<}
 use lib.ListN.{length, take, drop, take-append-drop, length-append}
-use lib.Seq.{take_all, take-length, take-append-add, take-append-le, take-append_seam}
+use lib.Seq.{take-length, take-append-add, take-append-le, take-append_seam}
 use Rattle.ground.specs.Lists.{alike, replaced}
-use Rattle.ground.proofs.Laws.{never, off, true_or_false, if_cases, alike_self, alike_same}
+use Rattle.ground.proofs.Laws.{true_or_false, if_cases, alike_self, alike_same}
 use Rattle.ground.proofs.Fills.{back_in, replaced_next}
 use Rattle.io.specs.Digits.{last_digits, IsDigitCount}
 use Rattle.texts.specs.Texts.{bytes_in, empty, and_of, places_of, decimal_of, SamePromise}
@@ -106,17 +106,6 @@ length_digits (suc k) v = rw (length-append, length_digits k (v / 10)) (omega ar
 pub digits_most : (v k : ℕ) → v < 10 ^ suc k → length (decimal_of v) ≤ suc k
 unfolding decimal_of
 digits_most v k h = rw (length_digits (places_of v v) v) (few_places v v k h)
-
--- a text longer than its bytes is all of them
-pub all_there : (xs : List ℕ) (n : ℕ) → length xs ≡ 128 → take (min n 128) xs ≡ take n xs
-all_there xs n size =
-    ⊎_elim (λ t. let low : min n 128 ≡ n = omega (arith, ltb-true n 128 t) in rw low)
-    (λ t. take_all (min n 128) xs (omega (arith, ltb-false n 128 t)) ∙ sym (take_all n xs (omega (arith, ltb-false n 128 t)))) (true_or_false (ltb n 128))
-
--- an answer that is true of equal lists, and of no others
-pub tells_alike : (r : Bool) (s t : List ℕ) → (r ≡ true → s ≡ t) → (s ≡ t → r ≡ true) → r ≡ alike s t
-tells_alike true s t f g = rw (f refl) (sym (alike_self t))
-tells_alike false s t f g = sym (off (alike s t) (λ h. never (g (alike_same s t h)) refl))
 
 -- whether a text says these bytes and no other
 pub same_said : (t : Text) (s : List ℕ) (r : Bool) → SamePromise t s r → (r ≡ true) ↔ (bytes_in t ≡ s)

@@ -1,21 +1,14 @@
 // Short texts, put together piece by piece.
 #![tactic(auto)]
 
-ghost use Rattle.std.specs.Prelude.{◌≡◌, min};
 ghost use Rattle.texts.specs.Texts.{TextPromise, AndPromise, DecimalPromise, SamePromise};
 
 // Up to 128 bytes, of which the first n are the text. Spaces stand behind it, so that a column is filled by writing more than the text has.
+// It is no String, since a library here allocates nothing and these functions cannot fail.
 #[derive(Clone, Copy)]
 pub struct Text {
     pub bytes: [u8; 128],
     pub n: usize,
-}
-
-// The least of two numbers.
-fn least(a: usize, b: usize) -> usize
-    ensures { result ≡ min a b }
-{
-    if a < b { a } else { b }
 }
 
 impl Text {
@@ -31,25 +24,25 @@ impl Text {
     }
 
     // The text with more behind it. What has no room is left out.
+    #[tactic(auto, using(crate::proofs::Texts::full, crate::proofs::Texts::put_behind))]
     pub fn and(self, s: &[u8]) -> Text
         ensures { AndPromise self s.now result }
     {
-        let n = self.n;
+        let Text { mut bytes, n } = self;
         if 128 <= n {
             return self;
         }
-        let mut bytes = self.bytes;
-        let k = least(s.len(), 128 - n);
-        let end = n + k;
-        bytes[n..end].copy_from_slice(&s[..k]);
-        Text { bytes, n: end }
+        let k = s.len().min(128 - n);
+        bytes[n..n + k].copy_from_slice(&s[..k]);
+        Text { bytes, n: n + k }
     }
 
     // The text with a number behind it, in decimal.
+    #[tactic(auto, using(crate::proofs::Texts::decimal))]
     pub fn number(self, v: u64) -> Text
         ensures { DecimalPromise self v result }
     {
-        let mut digits = [0u8; 20];
+        let mut digits = [0; 20];
         let k = io::decimal(v, &mut digits);
         self.and(&digits[..k])
     }
@@ -59,7 +52,6 @@ impl Text {
         ensures { SamePromise self s.now result }
     {
         let bytes = self.bytes;
-        let n = least(self.n, 128);
-        check::same(&bytes[..n], s)
+        &bytes[..self.n.min(128)] == s
     }
 }
