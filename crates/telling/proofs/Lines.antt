@@ -12,13 +12,14 @@ use Rattle.cases.specs.declared.heads.Part.{Part}
 use Rattle.cases.specs.declared.heads.Part.TheVariants.{Vectors, Predicates, Scalars, Flash, FlashRights, Ram, RamRights, Blob}
 use Rattle.cases.specs.declared.heads.Refusal.{Refusal}
 use Rattle.cases.specs.declared.heads.Refusal.TheVariants.{Ends, Magic, Flags, Kind, Level, Long, Room}
-use Rattle.telling.specs.Lines.{ascii, line_of, over_limit, reason_of, LinePromise, RefusedPromise}
+use lib.Chars.{codes}
+use Rattle.telling.specs.Lines.{line_of, over_limit, reason_of, LinePromise, RefusedPromise}
 
 behind : (a b : List ℕ) → and_of (and_of empty a) b ≡ and_of empty (a ++ b)
 behind a b = and_and empty a b refl
 
 pub pieces : (prefix : List ℕ) (number : ℕ) (why : List ℕ)
-    → and_of (and_of (and_of (and_of (and_of empty prefix) (decimal_of number)) (ascii ": ")) why) (ascii "\n") ≡ and_of empty (line_of prefix number why)
+    → and_of (and_of (and_of (and_of (and_of empty prefix) (decimal_of number)) (codes ": ")) why) (codes "\n") ≡ and_of empty (line_of prefix number why)
 unfolding line_of
 pieces prefix number why = rw (behind, behind, behind, behind, append_assoc, append_assoc, append_assoc)
 
@@ -36,7 +37,7 @@ pub line_whole : (prefix : List ℕ) (number : ℕ) (why : List ℕ) (r : Text) 
     → length prefix + length why ≤ 105 → bytes_in r ≡ line_of prefix number why
 line_whole prefix number why r p small short = rw p (says_whole (line_of prefix number why) (line_length prefix number why small short))
 
-limit_short : (part : Part) → length (ascii (over_limit part)) ≤ 54
+limit_short : (part : Part) → length (codes (over_limit part)) ≤ 54
 limit_short Vectors = lit≤ tt
 limit_short Predicates = lit≤ tt
 limit_short Scalars = lit≤ tt
@@ -46,7 +47,7 @@ limit_short Ram = lit≤ tt
 limit_short RamRights = lit≤ tt
 limit_short Blob = lit≤ tt
 
-reason_short : (why : Refusal) → length (ascii (reason_of why)) ≤ 54
+reason_short : (why : Refusal) → length (codes (reason_of why)) ≤ 54
 reason_short Ends = lit≤ tt
 reason_short Magic = lit≤ tt
 reason_short Flags = lit≤ tt
@@ -57,6 +58,6 @@ reason_short Room = lit≤ tt
 
 -- so is that of every refusal, behind a prefix of 51 bytes or fewer
 pub refused_whole : (prefix : List ℕ) (number : ℕ) (why : Refusal) (r : Text) → RefusedPromise prefix number why r → number < 2 ^ 64
-    → length prefix ≤ 51 → bytes_in r ≡ line_of prefix number (ascii (reason_of why))
+    → length prefix ≤ 51 → bytes_in r ≡ line_of prefix number (codes (reason_of why))
 refused_whole prefix number why r p small short =
-    line_whole prefix number (ascii (reason_of why)) r p small (omega (arith, reason_short why))
+    line_whole prefix number (codes (reason_of why)) r p small (omega (arith, reason_short why))

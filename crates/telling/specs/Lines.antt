@@ -1,8 +1,6 @@
 -- Why a run of a program over cases ends early, in one line.
-use Rattle.std.specs.Prelude.{ℕ, ◌≡◌, List, [], ◌∷◌, ◌++◌}
-use Prim.Native.Char.{code}
+use Rattle.std.specs.Prelude.{ℕ, ◌≡◌, List, ◌++◌, codes}
 use Prim.Native.String.{String}
-use Prim.Native.String as S
 use Rattle.texts.specs.Texts.{empty, and_of, decimal_of}
 use Rattle.texts.specs.declared.Text.{Text}
 use Rattle.cases.specs.declared.heads.Part.{Part}
@@ -10,14 +8,9 @@ use Rattle.cases.specs.declared.heads.Part.TheVariants.{Vectors, Predicates, Sca
 use Rattle.cases.specs.declared.heads.Refusal.{Refusal}
 use Rattle.cases.specs.declared.heads.Refusal.TheVariants.{Ends, Magic, Flags, Kind, Level, Long, Room}
 
--- the bytes of what is written between quotes, a character of ASCII each
-abbrev pub ascii : String → List ℕ
-ascii S.[] = []
-ascii (S.◌∷◌ c s) = code c ∷ ascii s
-
 -- the line: the program and what it counts, as "replay: case ", the number of the one that ends it, and why
 unfoldable pub line_of : List ℕ → ℕ → List ℕ → List ℕ
-line_of prefix number why = prefix ++ (decimal_of number ++ (ascii ": " ++ (why ++ ascii "\n")))
+line_of prefix number why = prefix ++ (decimal_of number ++ (codes ": " ++ (why ++ codes "\n")))
 
 -- what `line` promises: a text of this line, of which what has no room is left out
 abbrev pub LinePromise : List ℕ → ℕ → List ℕ → Text → Type 0
@@ -46,4 +39,4 @@ reason_of Room = "its outcome is longer than the buffer"
 
 -- what `refused` promises: the line of a case that is refused
 abbrev pub RefusedPromise : List ℕ → ℕ → Refusal → Text → Type 0
-RefusedPromise prefix number why r = LinePromise prefix number (ascii (reason_of why)) r
+RefusedPromise prefix number why r = LinePromise prefix number (codes (reason_of why)) r
