@@ -7,7 +7,7 @@ use Rattle.ground.specs.declared.Size.{Size}
 use Rattle.memory.proofs.Looks.{with_right}
 use Rattle.memory.proofs.Windows.{place_into, slice_of}
 use Rattle.memory.specs.Addresses.{MovedPromise, PlusPromise, moved_of, plus_of, wrap, wrapℤ}
-use Rattle.memory.specs.Areas.{Area, Areas, AreasAcceptedPromise, are_areas_accepted, area_limit, page_bytes, share_none}
+use Rattle.memory.specs.Areas.{Area, Areas, AreasAcceptedPromise, are_areas_accepted, area_limit, areas_from, areas_of, page_bytes, share_none}
 use Rattle.memory.specs.Bytes.{BytePromise, Cell, judged, look_of}
 use Rattle.memory.specs.Elements.{ElementPromise, Reading, reading_of}
 use Rattle.memory.specs.Said.{AreaAccepted, AreasAccepted, Both, Holds, OneOf, Right}
@@ -16,6 +16,7 @@ use Rattle.memory.specs.Windows.{PartOf, PlacePromise, Shows, WindowPromise}
 use Rattle.memory.specs.declared.Address.{Address}
 use Rattle.memory.specs.declared.BadByte.{BadByte}
 use Rattle.memory.specs.declared.Fault.TheVariants.{Denied, Nowhere}
+use Rattle.memory.specs.declared.Map.{Map}
 use Rattle.memory.specs.declared.Place.{Place}
 use denote.Ref.{Bor}
 use lib.IntN.{◌+ℤ◌, neg_ℤ, pos, ℤ}
@@ -92,6 +93,14 @@ moved_back_said = Rattle.memory.proofs.Promises.moved_back_said
 
 pub areas_accepted_said : (m : Areas) (r : Bool) → AreasAcceptedPromise m r → (r ≡ true) ↔ AreasAccepted m
 areas_accepted_said = Rattle.memory.proofs.Promises.areas_accepted_said
+
+-- areas read off a value are those of the map and of what is lent
+pub areas_read : (w : Map) (flash flash_rights ram ram_rights : Bor (List ℕ))
+    → areas_of (record {
+      flash = record { start = w.flash; bytes = flash; rights = flash_rights };
+      ram = record { start = w.ram; bytes = ram; rights = ram_rights };
+    }) ≡ areas_from w flash.now flash_rights.now ram.now ram_rights.now
+areas_read = Rattle.memory.proofs.Promises.areas_read
 
 pub byte_nowhere_said : (m : Areas) (a : ℕ) (r : Cell) (p : BytePromise m a r) → (r ≡ Err Nowhere) ↔ ((Holds m.flash a → ⊥) × (Holds m.ram a → ⊥))
 byte_nowhere_said = Rattle.memory.proofs.Promises.byte_nowhere_said
