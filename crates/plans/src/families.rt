@@ -54,15 +54,16 @@ impl<'a> Load<'a> {
 
     // N, the lanes of a register.
     fn lanes(self) -> u64
-        ensures { result ≡ lanes_of self.entry.settings.vl self.entry.insn.element.lane }
+        ensures { let l = self.entry in result ≡ lanes_of l.settings.vl l.insn.element.lane }
     {
         self.settings.vl / (8 * self.insn.element.lane.bytes())
     }
 
     // Where element 0 lies: an immediate counts blocks of so many bytes, a scalar counts elements.
+    #[tactic(auto, using(crate::proofs::Bounds::product_fits, crate::proofs::Bounds::product, crate::proofs::Bounds::wrap_once))]
     fn start(self, block: u64, offset: Offset) -> Address
         requires { block ≤ 2048 }
-        ensures { result.0 ≡ start_of self.entry.x.now self.entry.insn.base self.entry.insn.element.memory block offset }
+        ensures { let l = self.entry in result.0 ≡ start_of l.x.now l.insn.base l.insn.element.memory block offset }
     {
         let base = Address(self.scalar(self.insn.base));
         match offset {
@@ -77,7 +78,7 @@ impl<'a> Load<'a> {
     // What is added to the base where it is written back: the sum of the reads, one for each register, where Rm is 31, else Xm.
     #[tactic(auto, using(ground::proofs::Sizes::bytes_few))]
     fn added(self, back: Option<u32>) -> Option<u64>
-        ensures { result ≡ added_of self.entry.x.now (self.entry.insn.registers * bytes_of self.entry.insn.element.memory) back }
+        ensures { let l = self.entry in result ≡ added_of l.x.now (l.insn.registers * bytes_of l.insn.element.memory) back }
     {
         match back? {
             31 => Some(u64::from(self.insn.registers) * self.insn.element.memory.bytes()),
@@ -87,7 +88,7 @@ impl<'a> Load<'a> {
 
     // LD1R to LD4R: a read for each register, over 64 bits where Q is 0, else over 128.
     fn replicate(self, q: bool, back: Option<u32>) -> Spread
-        ensures { spread_by result ≡ replicated self.entry.x.now self.entry.insn q back }
+        ensures { let l = self.entry in spread_by result ≡ replicated l.x.now l.insn q back }
     {
         let bytes = if q { 16 } else { 8 };
         Spread {
@@ -103,7 +104,7 @@ impl<'a> Load<'a> {
     // LD1R by element: one read, imm6 elements on, and the lanes by their own bits.
     #[tactic(auto, using(crate::proofs::Bounds::wrap_once), unfolding(steps::specs::Plans::spread_of))]
     fn by_element(self, imm6: u32) -> Spread
-        ensures { spread_by result ≡ spread_of self.entry.settings.vl self.entry.x.now self.entry.insn (ByElement imm6) }
+        ensures { let l = self.entry in spread_by result ≡ spread_of l.settings.vl l.x.now l.insn (ByElement imm6) }
     {
         let n = self.lanes();
         let base = Address(self.scalar(self.insn.base));
@@ -120,7 +121,7 @@ impl<'a> Load<'a> {
     // LD1: a read for each lane; the immediate counts vectors, as they lie in memory.
     #[tactic(auto, unfolding(steps::specs::Plans::spread_of))]
     fn contiguous(self, offset: Offset) -> Spread
-        ensures { spread_by result ≡ spread_of self.entry.settings.vl self.entry.x.now self.entry.insn (Contiguous offset) }
+        ensures { let l = self.entry in spread_by result ≡ spread_of l.settings.vl l.x.now l.insn (Contiguous offset) }
     {
         let n = self.lanes();
         Spread {
@@ -137,7 +138,7 @@ impl<'a> Load<'a> {
     // are read, and the stack rule consults every lane of the register.
     #[tactic(auto, unfolding(steps::specs::Plans::spread_of))]
     fn block(self, wide: bool, offset: Offset) -> Spread
-        ensures { spread_by result ≡ spread_of self.entry.settings.vl self.entry.x.now self.entry.insn (Block wide offset) }
+        ensures { let l = self.entry in spread_by result ≡ spread_of l.settings.vl l.x.now l.insn (Block wide offset) }
     {
         let bytes = if wide { 32 } else { 16 };
         let k = bytes / self.insn.element.lane.bytes();
@@ -154,7 +155,7 @@ impl<'a> Load<'a> {
     // What the load's shape decides, family by family.
     #[tactic(auto, unfolding(steps::specs::Plans::spread_of))]
     fn spread(self) -> Spread
-        ensures { spread_by result ≡ spread_of self.entry.settings.vl self.entry.x.now self.entry.insn self.entry.insn.shape }
+        ensures { let l = self.entry in spread_by result ≡ spread_of l.settings.vl l.x.now l.insn l.insn.shape }
     {
         match self.insn.shape {
             Shape::Replicate { q, back } => self.replicate(q, back),
@@ -166,7 +167,7 @@ impl<'a> Load<'a> {
 
     // The plan: what the instruction has, and what its shape decides.
     fn plan(self) -> Plan
-        ensures { result ≡ plan_of self.entry.settings.vl self.entry.x.now self.entry.insn }
+        ensures { let l = self.entry in result ≡ plan_of l.settings.vl l.x.now l.insn }
     {
         let insn = self.insn;
         let spread = self.spread();
@@ -195,7 +196,7 @@ impl<'a> Load<'a> {
 
     // Whether the switch that the load asks is off: SIMD for LD1R to LD4R, SVE for any other.
     fn switched_off(self) -> bool
-        ensures { result ≡ not (switched_on self.entry.settings self.entry.insn.shape) }
+        ensures { let l = self.entry in result ≡ not (switched_on l.settings l.insn.shape) }
     {
         match self.insn.shape {
             Shape::Replicate { .. } => !self.settings.simd,
@@ -206,7 +207,7 @@ impl<'a> Load<'a> {
     // What the load is about to do: 3 for want of F64MM, 4, 3 for short VL, or its plan.
     #[tactic(auto, unfolding(steps::specs::Step::planned_load, steps::specs::Step::refusals))]
     pub fn planned(self) -> Result<Plan, Answer>
-        ensures { result ≡ planned_load self.entry.settings self.entry.x.now self.entry.insn }
+        ensures { let l = self.entry in result ≡ planned_load l.settings l.x.now l.insn }
     {
         if self.is_wide() && !self.settings.f64mm {
             return Err(Answer::Undefined);
