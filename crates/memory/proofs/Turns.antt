@@ -2,6 +2,7 @@
 use Rattle.std.proofs.Common.{◌≡◌, ℕ, zero, suc, ◌+◌, ◌-◌, ◌*◌, ◌%◌, ◌^◌, ◌<◌, ◌≤◌, Ok, Err, sym, refl, ap, ◌∙◌, add-zero, add_assoc, mul_assoc, mul_comm, mul-zero, mul-add, sub-one, arith, pow_mono, pow-add, shl_exact}
 use lib.Arith.{digits_lt}
 use Rattle.std.specs.Result.{MatchResult}
+use Rattle.ground.proofs.Sizes.{bytes_few}
 use Rattle.memory.specs.declared.BadByte.{BadByte}
 use Rattle.memory.specs.Addresses.{plus_of}
 use Rattle.memory.specs.Bytes.{Cell}
@@ -70,3 +71,5 @@ module _ {look : ℕ → Cell} {a n v i : ℕ} (s : SoFar look a n v i) (more : 
     turned at p q =
         let e : look (plus_of a i) ≡ Ok b = rw (← p) (sym q) in
         record { few = s.few; fits = below; reads = s.reads ∙ simp (next, e, shifted, scale, over_low_byte) }
+
+pub ruleset read_so_far = (bytes_few, in_word, finished)

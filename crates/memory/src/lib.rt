@@ -164,6 +164,7 @@ impl<'a> Areas<'a> {
     }
 
     // What reading an element finds, byte by byte upward, with wrap: its value, lowest byte first, or the first bad byte.
+    #[tactic(auto, using(crate::proofs::Turns::read_so_far))]
     pub fn element(self, a: Address, size: Size) -> Result<u64, BadByte>
         ensures { ElementPromise (areas_of self.entry) a.0 size result }
     {
