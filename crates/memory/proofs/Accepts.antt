@@ -1,7 +1,8 @@
 -- Areas are accepted exactly as the scope of work says: limit, a rights byte for each page begun, start, end, and no address in both.
 use Rattle.std.proofs.Common.{◌≡◌, ℕ, ◌+◌, ◌-◌, ◌/◌, ◌<◌, ◌≤◌, Bool, true, false, ◌||◌, eqb, ltb, leb, ◌↔◌, List, [], ◌∷◌, length, refl, ⊎_elim, arith, ltb-false, ltb-true, eq-eqb, eqb-true, le-leb, leb-false, leb-true}
 use borrow.Author.Tests.{eqb-false}
-use Rattle.ground.proofs.Laws.{all_of_lem, all_hold, true_or_false, or_cases, never}
+use Rattle.std.proofs.lemmas.Bool.{or_parts}
+use Rattle.ground.proofs.Laws.{all_of_lem, all_hold, true_or_false, or_cases}
 use Rattle.memory.specs.Areas.{area_limit, page_bytes, Area, Areas, end_of, area_tests, is_area_accepted, share_none, are_areas_accepted}
 use Rattle.memory.specs.Said.{Holds, AreaAccepted, AreasAccepted}
 
@@ -35,10 +36,6 @@ pub rights_there : (r : Area) → AreaAccepted r → (a : ℕ) → Holds r a →
 rights_there r t a h = let e = t.reached in omega arith
 
 -- ---- two areas, of fn bytes from f on and of rn bytes from r on
-or_none : (a b : Bool) → (a || b) ≡ false → (a ≡ false) × (b ≡ false)
-or_none true b e = never refl e
-or_none false b e = (refl, e)
-
 module _ (f fn r rn : ℕ) where
   abbrev one : Bool
   one = leb (end_of f fn) r
@@ -61,9 +58,9 @@ module _ (f fn r rn : ℕ) where
   shared : share_none f fn r rn ≡ false → (a : ℕ) × ((f ≤ a) × (a < f + fn)) × ((r ≤ a) × (a < r + rn))
   unfolding share_none
   shared e =
-      let w = or_none (one || two || eqb fn 0) (eqb rn 0) e in
-      let v = or_none (one || two) (eqb fn 0) w.0 in
-      let u = or_none one two v.0 in
+      let w = or_parts (one || two || eqb fn 0) (eqb rn 0) e in
+      let v = or_parts (one || two) (eqb fn 0) w.0 in
+      let u = or_parts one two v.0 in
       let p = leb-false (end_of f fn) r u.0 in
       let q = leb-false (end_of r rn) f u.1 in
       let x = eqb-false fn 0 v.1 in
