@@ -72,4 +72,5 @@ module _ {look : ℕ → Cell} {a n v i : ℕ} (s : SoFar look a n v i) (more : 
         let e : look (plus_of a i) ≡ Ok b = rw (← p) (sym q) in
         record { few = s.few; fits = below; reads = s.reads ∙ simp (next, e, shifted, scale, over_low_byte) }
 
+-- what the check takes from here for the goals of the loop that have no answer of their own
 pub ruleset read_so_far = (bytes_few, in_word, finished)

@@ -1,7 +1,7 @@
 // The memory of the bench: two areas with a rights byte for each page begun, read byte by byte.
 #![tactic(auto)]
 
-ghost use Rattle.std.specs.Prelude.{◌≡◌, ◌^◌, ◌<◌, ◌≤◌, length, nat_le};
+ghost use Rattle.std.specs.Prelude.{◌≡◌, ◌<◌, length};
 ghost use Rattle.memory.specs.Addresses.{PlusPromise, MovedPromise};
 ghost use Rattle.memory.specs.Areas.{area_of, areas_from, areas_of, end_of, is_area_accepted, share_none, AreasAcceptedPromise, offset_in, place_in};
 ghost use Rattle.memory.specs.Bytes.{judged, BytePromise};
@@ -73,7 +73,7 @@ pub struct Area<'a> {
 }
 
 impl<'a> Area<'a> {
-    // The first address beyond the area. It can be 2^64, which is none.
+    // The first address beyond the area. It can be 2^64, which no Address is.
     fn end(self) -> u128
         ensures { let r = area_of self.entry in result ≡ end_of r.start (length r.bytes) }
     {

@@ -1,3 +1,4 @@
+-- A turn ends at a bad byte, which is told with its address, or goes on with a byte more read.
 use Rattle.std.proofs.Common.{rules, arith}
 use Rattle.std.proofs.lemmas.Result.{err_from_is_err_and}
 use Rattle.memory.proofs.Turns.{bad_byte, turned}
