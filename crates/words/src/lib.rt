@@ -91,7 +91,7 @@ impl Dtype {
     }
 }
 
-// Bits hi to lo of a word, as Arm writes word<hi:lo>.
+// Bits hi to lo of a word, as Arm writes word<hi:lo>: 31 bits at most.
 fn bits(word: u32, hi: u32, lo: u32) -> u32
     requires { (lo ≤ hi) × (hi < lo + 31) × (lo < 32) }
     ensures { result ≡ bits word hi lo }
