@@ -206,7 +206,7 @@ impl<'a> Load<'a> {
 
     // What the load is about to do: 3 for want of F64MM, 4, 3 for short VL, or its plan.
     #[tactic(auto, unfolding(steps::specs::Step::planned_load, steps::specs::Step::refusals))]
-    pub fn planned(self) -> Result<Plan, Answer>
+    pub(crate) fn planned(self) -> Result<Plan, Answer>
         ensures { let l = self.entry in result ≡ planned_load l.settings l.x.now l.insn }
     {
         if self.is_wide() && !self.settings.f64mm {
