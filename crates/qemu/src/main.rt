@@ -11,7 +11,7 @@ use std::io::{Print, Read};
 use tally::Tally;
 
 // What a line on standard error begins with.
-const STEP: [u8; 11] = *b"qemu: step ";
+const STEP: &[u8] = b"qemu: step ";
 
 // The longest case with its outcome, and the longest outcome: `longest_case` of crates/cases/proofs/Limits.antt.
 const LONGEST_STEP: usize = 465185;
@@ -78,9 +78,9 @@ fn tell(output: &impl Print, errors: &impl Print, tally: &Tally, number: u64, st
             let _ = tally.write(output);
             return;
         }
-        Stop::Refused(why) => telling::refused(&STEP, number, why),
-        Stop::CutShort => telling::line(&STEP, number, b"the recorded outcome is cut short"),
-        Stop::Unread => telling::line(&STEP, number, b"standard input is no file that can be read"),
+        Stop::Refused(why) => telling::refused(STEP, number, why),
+        Stop::CutShort => telling::line(STEP, number, b"the recorded outcome is cut short"),
+        Stop::Unread => telling::line(STEP, number, b"standard input is no file that can be read"),
     };
     if let Some(bytes) = line.bytes.get(..line.n) {
         let _ = errors.write_all(bytes);

@@ -5,7 +5,7 @@ use cases::Refusal;
 use std::io::{Print, Read};
 
 // What a line on standard error begins with.
-const CASE: [u8; 13] = *b"replay: case ";
+const CASE: &[u8] = b"replay: case ";
 
 // How many bytes the head of a step has, and the longer head of any other question.
 const HEAD: usize = 96;
@@ -81,9 +81,9 @@ fn one_case(
 fn tell(errors: &impl Print, number: u64, stop: Stop) {
     let line = match stop {
         Stop::End => return,
-        Stop::Refused(why) => telling::refused(&CASE, number, why),
-        Stop::Unread => telling::line(&CASE, number, b"standard input cannot be read"),
-        Stop::Unwritten => telling::line(&CASE, number, b"standard output cannot be written"),
+        Stop::Refused(why) => telling::refused(CASE, number, why),
+        Stop::Unread => telling::line(CASE, number, b"standard input cannot be read"),
+        Stop::Unwritten => telling::line(CASE, number, b"standard output cannot be written"),
     };
     if let Some(bytes) = line.bytes.get(..line.n) {
         let _ = errors.write_all(bytes);
