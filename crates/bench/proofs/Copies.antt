@@ -1,4 +1,4 @@
--- One turn of the loops that repeat a block and that write zeros.
+-- One turn of the loop that repeats a block.
 use Rattle.std.proofs.Common.{◌≡◌, ℕ, ◌+◌, ◌-◌, ◌%◌, ◌<◌, ◌≤◌, List, length, get_or, set, sym, ap, ◌∙◌, sub-add_cancel, arith, get_or-set_other, get_or-set_same, below_more}
 use native.Mathlib.Nat.{add-mod_right}
 
@@ -10,11 +10,3 @@ copied_more dst dst₀ block i some past h so_far =
     below_more (λ (j : ℕ). get_or (set dst i (get_or dst (i - block) 0)) j 0 ≡ get_or dst₀ (j % block) 0) i
     (λ j l. let other : j ≡ i → ⊥ = omega arith in get_or-set_other dst i j _ 0 other ∙ so_far j l)
     (get_or-set_same dst i _ 0 h ∙ so_far (i - block) (omega arith) ∙ ap (λ (k : ℕ). get_or dst₀ k 0) back)
-
-pub zeroed_more : (dst : List ℕ) (from i : ℕ) → i < length dst → ((j : ℕ) → from ≤ j → j < i → get_or dst j 0 ≡ 0)
-    → (j : ℕ) → from ≤ j → j < i + 1 → get_or (set dst i 0) j 0 ≡ 0
-zeroed_more dst from i h so_far j k l =
-    below_more (λ (j : ℕ). from ≤ j → get_or (set dst i 0) j 0 ≡ 0) i
-    (λ j l k. let other : j ≡ i → ⊥ = omega arith in get_or-set_other dst i j 0 0 other ∙ so_far j k l)
-    (λ k. get_or-set_same dst i 0 0 h)
-    j l k

@@ -1,5 +1,5 @@
 -- A lane as code makes it: a number modulo 2^64, byte by byte, and what the definition has there; element by element, and from a stretch.
-use Rattle.std.proofs.Common.{if◌then◌else◌, ◌≡◌, ℕ, suc, ◌+◌, ◌-◌, ◌*◌, ◌/◌, ◌%◌, ◌^◌, ◌<◌, ◌≤◌, Bool, true, false, ◌&&◌, ltb, leb, List, ◌++◌, length, take, drop, sym, ap, ◌∙◌, suc-mul, one-mul, arith, lit<, pow_pos, pow_mono, pow-add, shl_exact}
+use Rattle.std.proofs.Common.{if◌then◌else◌, ◌≡◌, ℕ, suc, ◌+◌, ◌-◌, ◌*◌, ◌/◌, ◌%◌, ◌^◌, ◌<◌, ◌≤◌, Bool, true, false, ◌&&◌, ltb, leb, List, ◌++◌, length, take, drop, sym, ap, ◌∙◌, suc-mul, arith, pow_pos, pow_mono, pow-add}
 use native.Mathlib.Nat.{two-pow-succ, add-mul-mod_self_right}
 use lib.Arith.{digits_div, digits_mod}
 use lib.Pow.{mod-mod-pow}
@@ -38,11 +38,7 @@ module _ (answer : ℕ → Reading) (p : Plan) (pred : List ℕ) (d : ℕ) where
 
 -- a number of n bytes with its sign in 64 bits
 module _ (n : ℕ) (some : 0 < n) (few : n ≤ 8) where
-  -- half of the numbers of n bytes, as it is shifted up
-  pub half_is : (1 * 2 ^ (8 * n - 1)) % 2 ^ 64 ≡ 2 ^ (8 * n - 1)
-  half_is = shl_exact 1 (8 * n - 1) 64 (lit< tt) (omega arith) ∙ one-mul _
-
-  pub twice : 2 ^ (8 * n) ≡ 2 ^ (8 * n - 1) + 2 ^ (8 * n - 1)
+  twice : 2 ^ (8 * n) ≡ 2 ^ (8 * n - 1) + 2 ^ (8 * n - 1)
   twice = let e : 8 * n ≡ suc (8 * n - 1) = omega arith in ap (λ (k : ℕ). 2 ^ k) e ∙ two-pow-succ (8 * n - 1)
 
   -- a number is above half of the largest where its sign bit is 1
@@ -50,9 +46,6 @@ module _ (n : ℕ) (some : 0 < n) (few : n ≤ 8) where
   sign_test v =
       let e : suc ((2 ^ (8 * n) - 1) / 2) ≡ 2 ^ (8 * n - 1) = omega (arith, twice, pow_pos (8 * n - 1)) in
       ap (λ (k : ℕ). leb k v) e
-
-  pub half_few : (1 ≤ 2 ^ (8 * n - 1)) × (2 ^ (8 * n - 1) + 2 ^ (8 * n - 1) ≤ 2 ^ 64)
-  half_few = let k : 8 * n ≤ 64 = omega arith in (pow_pos (8 * n - 1), rw (← twice) (pow_mono k))
 
 -- the bytes that a lane keeps of it are those of the definition's number, which has its sign in the lane
 module _ (m t : ℕ) (narrower : m ≤ t) (few : t ≤ 8) (v : ℕ) where

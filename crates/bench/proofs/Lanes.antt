@@ -1,26 +1,21 @@
 -- Lanes that are filled from a stretch: one lane more of a chunk, a chunk that is zero, and one chunk more of a register.
-use Rattle.std.proofs.Common.{if◌then◌else◌, ◌≡◌, ℕ, zero, suc, ◌+◌, ◌-◌, ◌*◌, ◌/◌, ◌%◌, ◌^◌, ◌<◌, ◌≤◌, Bool, true, false, List, [], ◌∷◌, ◌++◌, length, get_or, take, drop, sym, refl, ap, ◌∙◌, zero-le, mul_assoc, mul_comm, div-lt_iff_lt-mul, add_comm, arith, lit<}
-use native.Mathlib.Nat.{zero-div, add-mul-div_right, mul-add-mod_self_right, dvd-mul_left, le_of_dvd}
+use Rattle.std.proofs.Common.{if◌then◌else◌, ◌≡◌, ℕ, zero, suc, ◌+◌, ◌-◌, ◌*◌, ◌/◌, ◌%◌, ◌^◌, ◌<◌, ◌≤◌, Bool, false, List, [], ◌∷◌, ◌++◌, length, get_or, take, drop, sym, refl, ap, ◌∙◌, zero-le, mul_assoc, div-lt_iff_lt-mul, add_comm, arith}
+use native.Mathlib.Nat.{div-mul-le_self, le-mul_of_pos_right, mul-le-mul_left, zero-div, add-mul-div_right, mul-add-mod_self_right}
 use lib.Arith.{digits_div, digits_mod}
+use lib.Seq.{get_or-take}
 use Rattle.ground.specs.Lists.{listed, bytes_at}
-use Rattle.ground.proofs.Fills.{Filled, unfilled, one_filled, digits_filled, back_in}
+use Rattle.ground.proofs.Fills.{Filled, one_filled, digits_filled, back_in}
 use Rattle.steps.specs.Lanes.{bit_of}
 use Rattle.steps.proofs.Walks.{many}
-use Rattle.plans.proofs.Shapes.{factor_some}
+use Rattle.steps.proofs.Counts.{many_most}
 use Rattle.memory.specs.Addresses.{wrap}
 use Rattle.steps.specs.Outcomes.{extended}
 use Rattle.bench.specs.Inside.{Zeroed}
-use Rattle.bench.specs.Inside.Quick.{lane_from, byte_from, LanesIn, LanesOut}
+use Rattle.ground.specs.Sizes.{bytes_of}
+use Rattle.bench.specs.declared.chunks.Lanes.{Lanes}
+use Rattle.bench.specs.Inside.Quick.{lane_from, byte_from, ElementsIn, ChunksIn, LanesOut}
 use Rattle.bench.proofs.Small.{slot}
-use Rattle.bench.proofs.Many.{one, many_split, many_cong, many_none}
-
--- a lane is some bytes wide where a chunk is whole lanes
-pub some_width : (width : ℕ) → 8 / width * width ≡ 8 → 0 < width
-some_width width e = factor_some width (8 / width) 8 (mul_comm width (8 / width) ∙ e) (lit< tt)
-
--- no lane of n bytes is filled yet
-pub unfilled_of : (f : ℕ → ℕ) (w n : ℕ) (xs : List ℕ) → length xs ≡ n → Filled f w n xs 0
-unfilled_of f w n xs e = rw e at (unfilled f w xs)
+use Rattle.bench.proofs.Many.{many_split, many_cong, many_none}
 
 module _ (s : List ℕ) (from : ℕ) (bits : List ℕ) (stride : ℕ) (signed : Bool) (size width : ℕ) where
   -- ---- one lane more
@@ -65,7 +60,7 @@ module _ (s bits : List ℕ) (stride : ℕ) (signed : Bool) (size width per c : 
   deciding = get_or bits c 0 ∷ []
 
   abbrev start : ℕ
-  start = c * (per * stride)
+  start = c * per * stride
 
   bit_on : (j : ℕ) → j < per → bit_of deciding (j * width) ≡ bit_of bits ((c * per + j) * width)
   unfolding bit_of
@@ -107,6 +102,12 @@ module _ (s bits : List ℕ) (stride : ℕ) (signed : Bool) (size width per c : 
       (ap (λ (x : ℕ). many (λ l. bit_of bits (l * width)) 0 (c * per) + x)
       (many_cong (λ l. bit_of deciding (l * width)) (λ j. bit_of bits ((c * per + j) * width)) 0 per (λ j _ h. bit_on j (omega arith))))
 
+  -- .. and no more than one for each byte
+  pub count_most : many (λ l. bit_of bits (l * width)) 0 (c * per) + many (λ l. bit_of deciding (l * width)) 0 per ≤ c * 8 + 8
+  count_most =
+      let few : per ≤ 8 = rw even at (le-mul_of_pos_right per some) in
+      omega (arith, many_most (λ l. bit_of bits (l * width)) 0 (c * per), many_most (λ l. bit_of deciding (l * width)) 0 per, mul-le-mul_left c few)
+
 -- all chunks are all lanes
 pub chunks_filled : {f : ℕ → ℕ} {n chunks width : ℕ} {xs : List ℕ} (per : ℕ) → per * width ≡ 8 → Filled f 8 n xs chunks → Filled f width n xs (chunks * per)
 chunks_filled {f} {n} {chunks} {width} per even s =
@@ -114,44 +115,36 @@ chunks_filled {f} {n} {chunks} {width} per even s =
     record { size = s.size; so_far = λ i h. s.so_far i (rw (← e) h) }
 
 -- chunk c, of as many as there are, needs of the stretch what the whole needs
-module _ {s : List ℕ} {stride own size width n : ℕ} (w : LanesIn s 0 stride (own * (8 / width)) size width n) (c : ℕ) (more : c < own) where
+module _ {k : Lanes} {s bits : List ℕ} {n : ℕ} (w : ChunksIn k s bits n) (c : ℕ) (more : c < length bits) where
   abbrev per : ℕ
-  per = 8 / width
+  per = 8 / bytes_of k.width
 
-  lane_of : (l : ℕ) → l < per → c * (per * stride) + l * stride + size ≤ length s
-  lane_of l h =
-      let at : 0 + (c * per + l) * stride ≡ c * (per * stride) + l * stride = omega arith in
-      rw at at (w.inside (c * per + l) (omega (arith, slot c own per more)))
-
-  pub chunk_in : LanesIn s (c * (per * stride)) stride per size width 8
-  chunk_in = record { even = w.even; some = w.some; small = w.small; near = w.near; room = omega (arith, w.even); inside = lane_of }
-
-  pub start_in : c * (per * stride) ≤ length s
-  start_in = omega (arith, lane_of 0 (factor_some per width 8 w.even (lit< tt)))
+  pub chunk_in : ElementsIn s (c * per * k.stride) k.stride (bytes_of k.size) per
+  chunk_in l h =
+      let at : 0 + (c * per + l) * k.stride ≡ c * per * k.stride + l * k.stride = omega arith in
+      rw at at (w.inside (c * per + l) (omega (arith, slot c (length bits) per more)))
 
   pub chunk_room : c * 8 + 8 ≤ n
-  chunk_room =
-      let e : own * per * width ≡ own * 8 = mul_assoc own per width ∙ ap (λ (x : ℕ). own * x) w.even in
-      omega (arith, slot c own 8 more, w.room)
+  chunk_room = omega (arith, w.room)
 
--- ---- a call whose sizes and sign are constants
--- a lane is no wider than a chunk
-pub thin : (width : ℕ) → 8 / width * width ≡ 8 → width ≤ 8
-thin width even = le_of_dvd (lit< tt) (rw even at (dvd-mul_left width (8 / width)))
+-- the first m bytes of bits decide over the lanes of m chunks
+module _ (bits : List ℕ) (m : ℕ) where
+  bit_taken : (b : ℕ) → b < m * 8 → bit_of (take m bits) b ≡ bit_of bits b
+  unfolding bit_of
+  bit_taken b h = let few : b / 8 < m = omega arith in rw (get_or-take m bits (b / 8) 0 few)
 
--- sign, lane and memory size, a digit each to the base 16, are told by their number
-pub row_told : (signed b : Bool) (size width z w : ℕ) → (size ≤ 8) × (width ≤ 8) → (z ≤ 8) × (w ≤ 8)
-    → one signed * 256 + width * 16 + size ≡ one b * 256 + w * 16 + z → (size ≡ z) × (width ≡ w) × (signed ≡ b)
-row_told true true size width z w few most e = (omega arith, omega arith, refl)
-row_told false false size width z w few most e = (omega arith, omega arith, refl)
-row_told true false size width z w few most e = absurd (omega arith)
-row_told false true size width z w few most e = absurd (omega arith)
-
--- so many lanes of it need of the stretch what the numbers need, and leave what they leave
-module _ (lanes : ℕ → ℕ) {s : List ℕ} {from stride size width z w n : ℕ} (e : size ≡ z) (f : width ≡ w) where
-  pub const_in : LanesIn s from stride (lanes width) size width n → LanesIn s from stride (lanes w) z w n
-  const_in r = rw (e, f) at r
-
-  pub const_out : {bits dst : List ℕ} {r : ℕ} {signed b : Bool} → signed ≡ b
-      → LanesOut s from bits stride b z w n dst r (lanes w) → LanesOut s from bits stride signed size width n dst r (lanes width)
-  const_out g r = rw (e, f, g) r
+  pub lanes_taken : {s dst : List ℕ} {from stride size width n on lanes : ℕ} {signed : Bool} → lanes * width ≡ m * 8 → 0 < width
+      → LanesOut s from (take m bits) stride signed size width n dst on lanes → LanesOut s from bits stride signed size width n dst on lanes
+  unfolding byte_from lane_from
+  lanes_taken {width} {lanes} all some r =
+      record {
+        lanes_on =
+            r.lanes_on ∙ many_cong (λ l. bit_of (take m bits) (l * width)) (λ l. bit_of bits (l * width)) 0 lanes
+            (λ l _ h. bit_taken (l * width) (omega (arith, slot l lanes width (omega arith))));
+        filled = record {
+          size = r.filled.size;
+          so_far = λ i h.
+              let on : bit_of (take m bits) (i / width * width) ≡ bit_of bits (i / width * width) = bit_taken _ (omega (arith, div-mul-le_self i width)) in
+              r.filled.so_far i h ∙ rw on;
+        };
+      }

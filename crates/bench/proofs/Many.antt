@@ -1,5 +1,6 @@
 -- How many of a row of tests hold: one more, in two parts, and some exactly where one does.
 use Rattle.std.proofs.Common.{if◌then◌else◌, ◌≡◌, ℕ, zero, suc, ◌+◌, ◌<◌, ◌≤◌, Bool, true, false, ◌||◌, ltb, sym, refl, ◌∙◌, add-zero, add-suc, zero-add, add-one, arith, lt-ltb}
+use Rattle.std.specs.Int.{from_bool}
 use mathlib.Core.Bool.{or-true, or-false}
 use Rattle.ground.specs.Lists.{any_below}
 use Rattle.steps.proofs.Walks.{many}
@@ -55,3 +56,8 @@ any_many f (suc n) =
     go : (b : Bool) → ltb 0 (many f 0 n + one b) ≡ (ltb 0 (many f 0 n) || b)
     go true = rw or-true (lt-ltb 0 (many f 0 n + 1) (omega arith))
     go false = rw (or-false, add-zero)
+
+-- .. and as code makes it of a test
+pub one_is : (b : Bool) → from_bool b ≡ one b
+one_is true = refl
+one_is false = refl

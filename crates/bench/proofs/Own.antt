@@ -1,11 +1,11 @@
 -- A register's own lanes, those that are filled from a stretch: what is told of them by the rule, and what `own_lanes` makes of them.
-use Rattle.std.proofs.Common.{if◌then◌else◌, ◌≡◌, ℕ, ◌+◌, ◌*◌, ◌/◌, ◌%◌, ◌<◌, ◌≤◌, Bool, true, false, List, [], ◌∷◌, length, sym, refl, ap, ◌∙◌, le_refl, mul-le-mul_right, mod-eq_of_lt, mul_assoc, mul-pos, mul-zero, zero-add, zero-mul, mul-div_cancel, arith, lit≤, lt-ltb}
+use Rattle.std.proofs.Common.{if◌then◌else◌, ◌≡◌, ℕ, ◌+◌, ◌*◌, ◌/◌, ◌%◌, ◌<◌, ◌≤◌, Bool, true, false, List, [], ◌∷◌, length, sym, refl, ap, ◌∙◌, le_refl, mul-le-mul_right, mod-eq_of_lt, mul_assoc, mul-zero, zero-mul, mul-div_cancel, arith, lt-ltb, take, length-take}
 use native.Mathlib.Nat.{mod-le, mod-mod}
 use Rattle.ground.specs.Lists.{any_below}
 use Rattle.ground.specs.Sizes.{bytes_of}
 use Rattle.ground.specs.declared.Size.{Size}
 use Rattle.ground.proofs.Laws.{never}
-use Rattle.ground.proofs.Sizes.{bytes_some, bytes_few, whole_lanes}
+use Rattle.ground.proofs.Sizes.{bytes_some}
 use Rattle.memory.specs.declared.Reading.{Reading}
 use Rattle.steps.specs.Lanes.{bit_of, is_active, wanted, lane_takes, lane_element}
 use Rattle.steps.specs.Outcomes.{lane_value}
@@ -14,23 +14,22 @@ use Rattle.steps.specs.declared.Rule.{Rule}
 use Rattle.steps.specs.declared.Rule.TheVariants.{Always, LaneBit, ElementBit}
 use Rattle.steps.proofs.Walks.{many}
 use Rattle.plans.specs.Inside.{ShapedAs, Shaped}
-use Rattle.bench.specs.Inside.Quick.{LanesIn, LanesOut, is_always, own_of, stride_of, count_of, own_in, FillIn, OwnOut}
-use Rattle.bench.proofs.Small.{slot}
+use Rattle.bench.specs.declared.chunks.Lanes.{Lanes}
+use Rattle.bench.specs.Inside.Quick.{ChunksOut, is_always, own_of, stride_of, count_of, own_in, FillIn, OwnOut}
+use Rattle.bench.proofs.Small.{slot, chunk_whole}
 use Rattle.bench.proofs.Many.{any_many}
+use Rattle.bench.proofs.Lanes.{lanes_taken}
 
--- a chunk is whole lanes of every size, and whole chunks of lanes are those lanes
+-- whole chunks of lanes are those lanes
 module _ (s : Size) where
   abbrev b : ℕ
   b = bytes_of s
-
-  pub chunk_whole : 8 / bytes_of s * bytes_of s ≡ 8
-  chunk_whole = whole_lanes s 8 refl
 
   chunk_lanes : (k : ℕ) → k * b % 8 ≡ 0 → k * b / 8 * (8 / b) ≡ k
   chunk_lanes k h =
       let all : k * b / 8 * 8 ≡ k * b = omega arith in
       sym (mul-div_cancel (k * b / 8 * (8 / b)) (bytes_some s))
-      ∙ ap (λ (x : ℕ). x / b) (mul_assoc (k * b / 8) (8 / b) b ∙ ap (λ (x : ℕ). k * b / 8 * x) chunk_whole ∙ all)
+      ∙ ap (λ (x : ℕ). x / b) (mul_assoc (k * b / 8) (8 / b) b ∙ ap (λ (x : ℕ). k * b / 8 * x) (chunk_whole s) ∙ all)
       ∙ mul-div_cancel k (bytes_some s)
 
 -- what is told of the lanes that are filled from a stretch, k of them
@@ -105,44 +104,22 @@ module _ {p : Plan} {pred s : List ℕ} {n : ℕ} (f : FillIn p pred s n) where
   own_room : own_in p * 8 ≤ n
   own_room = omega (arith, same_bytes, mul-le-mul_right (bytes_of p.lane) tells.room, f.fit.shaped.room)
 
-  own_few : (0 < own_in p * 8) × (own_in p ≤ 32)
-  own_few = (rw same_bytes at (mul-pos tells.some (bytes_some p.lane)), omega (arith, own_room, f.fit.most))
+  pub own_there : own_in p ≤ length pred
+  own_there = omega (arith, own_room, f.fit.decided f.asks)
 
-  pub own_in_lem : LanesIn s 0 (stride_of p.rule (bytes_of p.size)) (own_in p * (8 / bytes_of p.lane)) (bytes_of p.size) (bytes_of p.lane) n
-  own_in_lem =
-      record {
-        even = chunk_whole p.lane;
-        some = bytes_some p.size;
-        small = bytes_few p.size;
-        near = near p.rule;
-        room = rw same_bytes own_room;
-        inside = λ l h. rw (zero-add, f.long) (tells.far l h);
-      }
-    where
-      near : (r : Rule) → stride_of r (bytes_of p.size) ≤ 8
-      near Always = lit≤ tt
-      near LaneBit = lit≤ tt
-      near ElementBit = bytes_few p.size
+  -- .. as they are asked of the stretch, and as they come back
+  abbrev lanes_of : ℕ → Lanes
+  lanes_of stride = record { size = p.size; width = p.lane; signed = p.signed; stride = stride }
 
-  -- .. with the numbers as they were found
-  module _ {own width : ℕ} (o : own ≡ own_in p) (w : width ≡ bytes_of p.lane) where
-    pub found_few : (0 < own * 8) × (own * 8 ≤ 256)
-    found_few = let few = own_few in rw o (few.0, omega (arith, few.1))
+  module _ {own stride : ℕ} (o : own ≡ own_in p) (d : stride ≡ stride_of p.rule (bytes_of p.size)) where
+    long : length (take own pred) ≡ own_in p
+    long = simp length-take (omega (arith, own_there))
 
-    pub found_room : p.filled * width ≤ n
-    found_room = rw w f.fit.shaped.room
+    pub own_filled : {dst : List ℕ} {on : ℕ} → ChunksOut (lanes_of stride) s (take own pred) n dst on → OwnOut p pred s n dst on
+    own_filled r = rw d at (rw long at (lanes_taken pred own (rw (long, o) same_bytes) (bytes_some p.lane) r))
 
 -- ---- whether the rule is that of LD1R to LD4R
 pub is_always_lem : (r : Rule) → is_always r ≡ true → r ≡ Always
 is_always_lem Always h = refl
 is_always_lem LaneBit h = never refl (sym h)
 is_always_lem ElementBit h = never refl (sym h)
-
--- ---- the lanes that are filled from the stretch, with the numbers as they were found
-module _ {p : Plan} {pred s : List ℕ} {n : ℕ} (f : FillIn p pred s n) {own width b stride : ℕ}
-    (o : own ≡ own_in p) (w : width ≡ bytes_of p.lane) (e : b ≡ bytes_of p.size) (d : stride ≡ stride_of p.rule (bytes_of p.size)) where
-  pub other_in : (LanesIn s 0 stride (own * (8 / width)) b width n) × (own ≤ 32) × (own ≤ length pred)
-  other_in = rw (o, w, e, d) (own_in_lem f, (own_few f).1, omega (arith, own_room f, f.fit.decided f.asks))
-
-  pub other_out : {dst : List ℕ} {on : ℕ} → LanesOut s 0 pred stride p.signed b width n dst on (own * (8 / width)) → OwnOut p pred s n dst on
-  other_out r = rw (o, w, e, d) at r

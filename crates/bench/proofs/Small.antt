@@ -1,5 +1,5 @@
 -- Products and quotients of an element's or a lane's number that are small enough.
-use Rattle.std.proofs.Common.{◌≡◌, ℕ, ◌+◌, ◌-◌, ◌*◌, ◌/◌, ◌%◌, ◌<◌, ◌≤◌, le_trans, mul-le-mul_right, suc-mul, mul-le-mul, arith, w64, Fits}
+use Rattle.std.proofs.Common.{◌≡◌, ℕ, ◌+◌, ◌-◌, ◌*◌, ◌/◌, ◌%◌, ◌<◌, ◌≤◌, le_trans, mul-le-mul_right, suc-mul, mul-le-mul, refl, arith, w64, Fits}
 use mir.Facts.{Fits-below}
 use Rattle.ground.specs.Sizes.{bytes_of}
 use Rattle.ground.specs.declared.Size.{Size}
@@ -27,3 +27,7 @@ module _ {k n : ℕ} (h : k < n) where
 
   pub next_fits : n ≤ 256 → Fits w64 (k + 1)
   next_fits few = Fits-below {n = 256} tt (le_trans next few)
+
+-- a chunk is whole lanes of every size
+pub chunk_whole : (s : Size) → 8 / bytes_of s * bytes_of s ≡ 8
+chunk_whole s = whole_lanes s 8 refl

@@ -25,13 +25,13 @@ fn largest(size: Size) -> u64
 }
 
 // A number of one size in a lane of another: with its sign, or with zeros. Modulo 2^64, which no lane outgrows.
-fn extend(signed: bool, size: Size, lane: Size, v: u64) -> u64
+pub(crate) fn extend(signed: bool, size: Size, lane: Size, v: u64) -> u64
     requires { bytes_of size ≤ bytes_of lane }
     ensures { result ≡ wrap (extended signed (bytes_of size) (bytes_of lane) v) }
 {
     let most = largest(size);
-    if signed & (most / 2 < v) {
-        return std::num::wrapping_add_u64(v, largest(lane) - most);
+    if signed && most / 2 < v {
+        return v.wrapping_add(largest(lane) - most);
     }
     v
 }
@@ -127,14 +127,10 @@ pub(crate) fn fill(
 
 // Zeros from a place on.
 pub(crate) fn zeros(dst: &mut [u8], from: usize)
+    requires { from ≤ length dst.old }
     ensures { Zeroed dst.old dst.new from }
 {
-    let n = dst.len();
-    let mut i = from;
-    while i < n {
-        dst[i] = 0;
-        i += 1;
-    }
+    dst[from..].fill(0);
 }
 
 // Writes the base back where the plan says so.

@@ -16,6 +16,7 @@ use Rattle.steps.specs.declared.Rule.{Rule}
 use Rattle.steps.specs.declared.Rule.TheVariants.{Always, LaneBit, ElementBit}
 use Rattle.steps.proofs.Walks.{many}
 use Rattle.plans.specs.Inside.{Shaped}
+use Rattle.bench.specs.declared.chunks.Lanes.{Lanes}
 
 -- what a stretch that starts with element 0 says of element e
 unfoldable pub answers_from : List ℕ → Plan → ℕ → Reading
@@ -30,19 +31,23 @@ module _ (s : List ℕ) (from : ℕ) (bits : List ℕ) (stride : ℕ) (signed : 
   unfoldable pub byte_from : ℕ → ℕ
   byte_from i = lane_from (i / width) / 256 ^ (i % width) % 256
 
--- what so many lanes of `width` bytes in n bytes need of the stretch: a chunk is whole lanes, and every element lies in the stretch
-pub record LanesIn (s : List ℕ) (from stride lanes size width n : ℕ) : Type 0 where
-  pub even : 8 / width * width ≡ 8
-  pub some : 0 < size
-  pub small : size ≤ 8
-  pub near : stride ≤ 8
-  pub room : lanes * width ≤ n
-  pub inside : (l : ℕ) → l < lanes → from + l * stride + size ≤ length s
+-- the elements of so many lanes lie in the stretch, the first at a place and each a stride on
+abbrev pub ElementsIn : List ℕ → ℕ → ℕ → ℕ → ℕ → Type 0
+ElementsIn s from stride size lanes = (l : ℕ) → l < lanes → from + l * stride + size ≤ length s
 
--- .. and what is left of n bytes, with the number of lanes that are on
+-- what is left of n bytes of lanes of `width` bytes, with the number of those that are on
 pub record LanesOut (s : List ℕ) (from : ℕ) (bits : List ℕ) (stride : ℕ) (signed : Bool) (size width n : ℕ) (dst : List ℕ) (on lanes : ℕ) : Type 0 where
   pub lanes_on : on ≡ many (λ l. bit_of bits (l * width)) 0 lanes
   pub filled : Filled (byte_from s from bits stride signed size width) width n dst lanes
+
+-- what chunks in n bytes need of the stretch, one for each byte of bits, and what is left of these bytes with the number of lanes that are on
+pub record ChunksIn (k : Lanes) (s bits : List ℕ) (n : ℕ) : Type 0 where
+  pub room : length bits * 8 ≤ n
+  pub inside : ElementsIn s 0 k.stride (bytes_of k.size) (length bits * (8 / bytes_of k.width))
+
+abbrev pub ChunksOut : Lanes → List ℕ → List ℕ → ℕ → List ℕ → ℕ → Type 0
+ChunksOut k s bits n dst on =
+    LanesOut s 0 bits k.stride k.signed (bytes_of k.size) (bytes_of k.width) n dst on (length bits * (8 / bytes_of k.width))
 
 -- the first bytes of a list, over and over, up to an end
 pub record Copied (dst dst' : List ℕ) (block end : ℕ) : Type 0 where

@@ -7,7 +7,7 @@ use Rattle.bench.proofs.roads.written.Tie as tie
 
 pub written_spec : {M : Type 1} → statement M
 written_spec =
-    tie.close (tie.spec (λ c κs. tt)
+    tie.close (tie.spec (λ c κs. search rules)
     (λ c κs.
     let g = c.before.before.before.before.before.before.before.before in
     let j = g.requires.1.0 in
