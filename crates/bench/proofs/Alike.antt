@@ -4,7 +4,7 @@ use Rattle.ground.specs.Lists.{replaced}
 use Rattle.ground.proofs.Fills.{back_in}
 use Rattle.ground.proofs.Laws.{never}
 use Rattle.memory.specs.Troubles.{trouble_of}
-use Rattle.memory.specs.declared.Reading.{Reading}
+use Rattle.memory.specs.Elements.{Reading}
 use Rattle.steps.specs.Answers.{number_of, report_with, report_of}
 use Rattle.steps.specs.Lanes.{wanted, asked, destinations_by, destinations_in, destination_of}
 use Rattle.steps.specs.Outcomes.{survey_of, register_of, vectors_after}

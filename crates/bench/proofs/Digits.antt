@@ -10,7 +10,7 @@ use Rattle.ground.proofs.Fills.{Filled, digits_filled}
 use Rattle.ground.proofs.Laws.{digit_mod, pow_bytes}
 use Rattle.ground.proofs.Sizes.{bytes_few}
 use Rattle.memory.specs.Addresses.{wrap}
-use Rattle.memory.specs.declared.Reading.{Reading}
+use Rattle.memory.specs.Elements.{Reading}
 use Rattle.steps.specs.Outcomes.{extended, lane_value, register_byte}
 use Rattle.steps.specs.declared.Plan.{Plan}
 

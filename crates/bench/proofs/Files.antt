@@ -1,9 +1,9 @@
 -- The vector file, with one destination more filled: the part that was lent on is that register, and comes back as the definition has it.
-use Rattle.std.proofs.Common.{◌≡◌, ℕ, ◌+◌, ◌-◌, ◌*◌, ◌≤◌, List, ◌++◌, length, take, drop, ap, ◌∙◌, mod-lt, add-one, lit<, lit≤}
+use Rattle.std.proofs.Common.{◌≡◌, ℕ, ◌+◌, ◌-◌, ◌*◌, ◌<◌, ◌≤◌, List, ◌++◌, length, take, drop, ap, ◌∙◌, mod-lt, add-one, lit<, lit≤}
 use Rattle.ground.specs.Lists.{replaced}
 use Rattle.ground.proofs.Fills.{back_in, part_length}
 use Rattle.ground.proofs.Laws.{length_listed, length_replaced}
-use Rattle.memory.specs.declared.Reading.{Reading}
+use Rattle.memory.specs.Elements.{Reading}
 use Rattle.steps.specs.Lanes.{destinations_by, destinations_in, destination_of}
 use Rattle.steps.specs.Outcomes.{register_byte, register_of, vectors_after}
 use Rattle.steps.specs.Inside.{PlanInRange}
@@ -16,6 +16,10 @@ use Rattle.bench.proofs.Small.{slot}
 pub in_file : (p : Plan) (j n : ℕ) {r m : ℕ} → r ≡ destination_of p j → m ≡ 32 * n → r * n + n ≤ m
 unfolding destination_of
 in_file p j n {r} e long = rw long (slot r 32 n (rw e (mod-lt _ (lit< tt))))
+
+-- a register's place in a file of 32
+pub in_32 : (r n : ℕ) → r < 32 → r * n + n ≤ 32 * n
+in_32 r n h = slot r 32 n h
 
 -- there are no more destinations than elements
 pub destinations_few : (p : Plan) → PlanInRange p → destinations_in p ≤ 256

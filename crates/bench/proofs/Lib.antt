@@ -4,7 +4,6 @@ pub mod Small
 pub mod Turns
 pub mod Digits
 pub mod Files
-pub mod Ends
 pub mod Copies
 pub mod Together
 pub mod Many
@@ -14,3 +13,4 @@ pub mod Registers
 pub mod Repeats
 pub mod Nothing
 pub mod Alike
+pub mod Ends

@@ -4,7 +4,7 @@ use native.Mathlib.Nat.{zero-div}
 use Rattle.ground.specs.Sizes.{bytes_of}
 use Rattle.ground.proofs.Fills.{is_listed}
 use Rattle.ground.proofs.Laws.{never, off, any_of}
-use Rattle.memory.specs.declared.Reading.{Reading}
+use Rattle.memory.specs.Elements.{Reading}
 use Rattle.steps.specs.Answers.{Report}
 use Rattle.steps.specs.Lanes.{wanted, asked, lane_takes, lane_element, destinations_in}
 use Rattle.steps.specs.Outcomes.{survey_of, lane_value, register_byte, register_of}

@@ -6,7 +6,7 @@ use Rattle.ground.specs.Sizes.{bytes_of}
 use Rattle.ground.specs.declared.Size.{Size}
 use Rattle.ground.proofs.Laws.{never}
 use Rattle.ground.proofs.Sizes.{bytes_some}
-use Rattle.memory.specs.declared.Reading.{Reading}
+use Rattle.memory.specs.Elements.{Reading}
 use Rattle.steps.specs.Lanes.{bit_of, is_active, wanted, lane_takes, lane_element}
 use Rattle.steps.specs.Outcomes.{lane_value}
 use Rattle.steps.specs.declared.Plan.{Plan}

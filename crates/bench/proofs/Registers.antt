@@ -9,7 +9,7 @@ use Rattle.ground.proofs.Fills.{Filled, is_listed}
 use Rattle.ground.proofs.Laws.{true_or_false}
 use Rattle.ground.proofs.Sizes.{bytes_some, bytes_few}
 use Rattle.memory.specs.Addresses.{wrap}
-use Rattle.memory.specs.declared.Reading.{Reading}
+use Rattle.memory.specs.Elements.{Reading}
 use Rattle.steps.specs.Lanes.{bit_of, lane_takes}
 use Rattle.steps.specs.Outcomes.{extended, lane_value, register_byte, register_of}
 use Rattle.steps.specs.declared.Plan.{Plan}

@@ -1,9 +1,10 @@
 -- A stretch of one area, its first and its last byte on pages that may be read: a load finds each of its bytes, and what memory says of
 -- an element in it, the stretch says.
-use Rattle.std.proofs.Common.{◌≡◌, ℕ, ◌+◌, ◌-◌, ◌*◌, ◌/◌, ◌%◌, ◌<◌, ◌≤◌, true, ◌&&◌, eqb, List, length, get_or, take, drop, sym, ap, ◌∙◌, ⊎_elim, mod-lt, zero-add, arith, lit<, get_or-drop, get_or-take, eqb-true}
+use Rattle.std.proofs.Common.{◌≡◌, ℕ, ◌+◌, ◌-◌, ◌*◌, ◌/◌, ◌%◌, ◌<◌, ◌≤◌, true, ◌&&◌, eqb, List, Ok, length, get_or, take, drop, sym, ap, ◌∙◌, ⊎_elim, mod-lt, zero-add, arith, lit<, get_or-drop, get_or-take, eqb-true}
 use borrow.Author.Tests.{eqb-false}
 use Rattle.ground.specs.Lists.{bytes_at}
 use Rattle.ground.specs.Sizes.{bytes_of}
+use Rattle.ground.proofs.Fills.{part_length}
 use Rattle.ground.proofs.Laws.{true_or_false, and_left, and_right, little_cong}
 use Rattle.memory.specs.Addresses.{plus_of}
 use Rattle.memory.specs.Areas.{page_bytes, Area, Areas}
@@ -11,8 +12,6 @@ use Rattle.memory.specs.Bytes.{look_of}
 use Rattle.memory.specs.Elements.{reading_of}
 use Rattle.memory.specs.Said.{AreaAccepted, AreasAccepted, OneOf, in_flash, in_ram}
 use Rattle.memory.specs.Troubles.{byte_found}
-use Rattle.memory.specs.declared.Cell.TheVariants.{Byte}
-use Rattle.memory.specs.declared.Reading.TheVariants.{Value}
 use Rattle.memory.proofs.Looks.{right_byte}
 use Rattle.memory.proofs.Elements.{value_exactly}
 use Rattle.steps.specs.Lanes.{element_at}
@@ -43,6 +42,7 @@ module _ (r : Area) (a n at : ℕ) (few : n ≤ page_bytes) (place : at + r.star
   pub stretch_within : Within r a n (take (at + n - at) (drop at r.bytes))
   stretch_within =
       record {
+        long = part_length r.bytes at n inside;
         held = λ i l. (omega arith, omega arith);
         right =
             λ i l. rw (here i) (between (λ x. get_or r.rights x 0 % 2 ≡ 1) (at / page_bytes) ((at + i) / page_bytes) ((at + n - 1) / page_bytes) (omega arith)
@@ -59,22 +59,26 @@ area_accepted m t in_flash = t.flash
 area_accepted m t in_ram = t.ram
 
 pub all_together : (m : Areas) → AreasAccepted m → {r : Area} → OneOf m r → {a n : ℕ} {s : List ℕ} → Within r a n s → Together m a n s
-all_together m t {r} o {a} w i l =
-    let h = w.held i l in
-    let e : plus_of a i ≡ a + i = omega (arith, (area_accepted m t o).ends) in
-    rw e (right_byte m t (a + i) o h (w.right i l) ∙ ap Byte (sym (w.bytes i l)))
+all_together m t {r} o {a} w =
+    record {
+      long = w.long;
+      found =
+          λ i l. let h = w.held i l in
+          let e : plus_of a i ≡ a + i = omega (arith, (area_accepted m t o).ends) in
+          rw e (right_byte m t (a + i) o h (w.right i l) ∙ ap Ok (sym (w.bytes i l)));
+    }
 
 -- k bytes on, so many bytes read as they stand in the stretch
 module _ (m : Areas) (a n : ℕ) (s : List ℕ) (w : Together m a n s) where
-  reads : (k size : ℕ) → k + size ≤ n → reading_of (look_of m) (plus_of a k) size ≡ Value (bytes_at s k size)
+  reads : (k size : ℕ) → k + size ≤ n → reading_of (look_of m) (plus_of a k) size ≡ Ok (bytes_at s k size)
   reads k size h =
       (value_exactly (look_of m) (plus_of a k) size (mod-lt (a + k) (lit< tt)) (bytes_at s k size)).1 (
         λ j l. (_, found j l),
         little_cong (λ j. get_or s (k + j) 0) (λ j. byte_found (look_of m (plus_of (plus_of a k) j))) 0 0 size (λ j l. rw (zero-add j, found j l)),
       )
     where
-      found : (j : ℕ) → j < size → look_of m (plus_of (plus_of a k) j) ≡ Byte (get_or s (k + j) 0)
-      found j l = let e : plus_of (plus_of a k) j ≡ plus_of a (k + j) = omega arith in rw e (w (k + j) (omega arith))
+      found : (j : ℕ) → j < size → look_of m (plus_of (plus_of a k) j) ≡ Ok (get_or s (k + j) 0)
+      found j l = let e : plus_of (plus_of a k) j ≡ plus_of a (k + j) = omega arith in rw e (w.found (k + j) (omega arith))
 
   -- .. and so each element of a plan
   pub stretch_answers : (p : Plan) → p.start.0 ≡ a → n ≡ p.elements * bytes_of p.size → (e : ℕ) → e < p.elements → answers_in m p e ≡ answers_from s p e

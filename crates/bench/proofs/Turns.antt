@@ -1,11 +1,9 @@
 -- One turn of `survey`'s loop, over any wishes and any answers: the walk over what is left goes on from the count so far.
-use Rattle.std.proofs.Common.{if◌then◌else◌, ◌≡◌, ℕ, zero, suc, ◌+◌, ◌-◌, ◌<◌, ◌≤◌, Bool, true, false, ◌∷◌, sym, ◌∙◌, sub-one, arith}
+use Rattle.std.proofs.Common.{if◌then◌else◌, ◌≡◌, ℕ, zero, suc, ◌+◌, ◌-◌, ◌<◌, ◌≤◌, Bool, true, false, ◌∷◌, Ok, Err, sym, ◌∙◌, sub-one, arith}
 use native.Mathlib.Nat.{sub-zero}
 use Rattle.ground.specs.Lists.{up_from}
-use Rattle.memory.specs.declared.Fault.{Fault}
-use Rattle.memory.specs.declared.Address.{Address}
-use Rattle.memory.specs.declared.Reading.{Reading}
-use Rattle.memory.specs.declared.Reading.TheVariants.{Value, Bad}
+use Rattle.memory.specs.declared.BadByte.{BadByte}
+use Rattle.memory.specs.Elements.{Reading}
 use Rattle.steps.specs.Answers.{fault_number, report_with}
 use Rattle.steps.specs.Outcomes.{walk}
 
@@ -40,9 +38,9 @@ module _ {want : ℕ → Bool} {answer : ℕ → Reading} {n count e : ℕ} (s :
   pass_turn h = record { within = omega arith; counts = let f = s.counts in omega arith; walks = s.walks ∙ rw (next, h) }
 
   -- it is read
-  pub read_turn : want e ≡ true → (v : ℕ) → answer e ≡ Value v → SoFar want answer n (count + 1) (e + 1)
+  pub read_turn : want e ≡ true → (v : ℕ) → answer e ≡ Ok v → SoFar want answer n (count + 1) (e + 1)
   read_turn h v a = record { within = omega arith; counts = let f = s.counts in omega arith; walks = s.walks ∙ rw (next, h, a) }
 
   -- it has a bad byte
-  pub fault_turn : want e ≡ true → (f : Fault) (a : Address) → answer e ≡ Bad f a → report_with (fault_number f) count e a.0 ≡ walk answer 0 (up_from want 0 n)
-  fault_turn h f a b = sym (s.walks ∙ rw (next, h, b))
+  pub fault_turn : want e ≡ true → (x : BadByte) → answer e ≡ Err x → report_with (fault_number x.fault) count e x.at.0 ≡ walk answer 0 (up_from want 0 n)
+  fault_turn h x b = sym (s.walks ∙ rw (next, h, b))

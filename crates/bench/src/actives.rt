@@ -4,139 +4,129 @@ ghost use Rattle.ground.specs.Lists.{any_below};
 ghost use Rattle.steps.specs.Lanes.{predicate_of, bit_of, is_active, wanted, may_take_by, lane_takes, checks_stack, lane_element};
 ghost use Rattle.steps.specs.Inside.{PlanInRange};
 ghost use Rattle.steps.specs.Step.{stack_fails};
+ghost use Rattle.bench.specs.Inside.Plans.{FillFits-prop};
+ghost use Rattle.bench.specs.Inside.Quick.{FillFits};
 
 use steps::{Plan, Rule};
-use words::Governing;
 
 // The bytes of the governing predicate, where there is one: a register of n bytes in a file of 16.
-pub(crate) fn governing_bytes<'p>(p: &'p [u8], n: usize, plan: Plan) -> &'p [u8]
+pub(crate) fn governing_bytes<'p>(predicates: &'p [u8], n: usize, plan: Plan) -> &'p [u8]
     requires plan_in_range { PlanInRange plan }
-    requires n_bound { (n ≤ 32) × (length p.now ≡ 16 * n) }
-    ensures { result.now ≡ predicate_of n p.now plan.governing }
+    requires n_bound { (n ≤ 32) × (length predicates.now ≡ 16 * n) }
+    ensures { result.now ≡ predicate_of n predicates.now plan.governing }
 {
-    let by = plan.governing;
-    match by {
-        Governing::None => &p[0..0],
-        Governing::By(g) => {
-            let at = g as usize * n;
-            let end = at + n;
-            &p[at..end]
-        }
+    match plan.governing {
+        None => &[],
+        Some(g) => &predicates[g as usize * n..][..n],
     }
 }
 
 // Whether a bit of a predicate register is 1, lowest bit of each byte first. Past its end there is none.
+#[tactic(auto, unfolding(steps::specs::Lanes::bit_of))]
 pub(crate) fn bit_is_set(pred: &[u8], bit: u64) -> bool
     ensures { result ≡ bit_of pred.now bit }
 {
-    let at = (bit / 8) as usize;
-    if at < pred.len() {
-        return (pred[at] as u64 >> (bit % 8)) % 2 == 1;
+    match pred.get((bit / 8) as usize) {
+        Some(byte) => (byte >> (bit % 8)) % 2 == 1,
+        None => false,
     }
-    false
 }
 
-// Whether lane l is active: one bit of its group decides, the lowest.
-fn lane_active(plan: Plan, pred: &[u8], l: u64) -> bool
-    requires { l ≤ 256 }
-    ensures { result ≡ is_active plan pred.now l }
-{
-    let lane = plan.lane;
-    bit_is_set(pred, l * lane.bytes())
+// A plan, over registers of so many bytes, with the bytes of the predicate that governs it.
+#[derive(Clone, Copy)]
+pub(crate) struct Lanes<'a> {
+    pub plan: Plan,
+    pub pred: &'a [u8],
+    pub register_bytes: usize,
+    ghost fits: { FillFits plan pred.now register_bytes } by { FillFits-prop plan pred.now register_bytes },
 }
 
-// Whether one of the first n lanes is active.
-fn some_active(plan: Plan, pred: &[u8], n: u64) -> bool
-    requires { n ≤ 256 }
-    ensures { result ≡ any_below (is_active plan pred.now) n }
-{
-    let mut l: u64 = 0;
-    while l < n {
-        if lane_active(plan, pred, l) {
-            return true;
+impl<'a> Lanes<'a> {
+    // Whether lane l is active: one bit of its group decides, the lowest.
+    #[tactic(auto, unfolding(steps::specs::Lanes::is_active))]
+    fn lane_active(self, l: u64) -> bool
+        requires { l ≤ 256 }
+        ensures { result ≡ is_active self.entry.plan self.entry.pred.now l }
+    {
+        bit_is_set(self.pred, l * self.plan.lane.bytes())
+    }
+
+    // Whether one of the first n lanes is active.
+    fn some_active(self, n: u64) -> bool
+        requires { n ≤ 256 }
+        ensures { result ≡ any_below (is_active self.entry.plan self.entry.pred.now) n }
+    {
+        for l in 0..n {
+            if self.lane_active(l) {
+                return true;
+            }
         }
-        l += 1;
+        false
     }
-    false
-}
 
-// Whether element e is asked for.
-pub(crate) fn asks(plan: Plan, pred: &[u8], e: u64) -> bool
-    requires plan_in_range { PlanInRange plan }
-    requires e_bound { e ≤ 256 }
-    ensures { result ≡ wanted plan pred.now e }
-{
-    let rule = plan.rule;
-    match rule {
-        Rule::Always => true,
-        Rule::LaneBit => some_active(plan, pred, plan.filled),
-        Rule::ElementBit => lane_active(plan, pred, e),
-    }
-}
-
-// Whether the SP check is made: for LD1R to LD4R always, else where one of the lanes that it consults is active.
-fn checks_stack(plan: Plan, pred: &[u8]) -> bool
-    requires { PlanInRange plan }
-    ensures { result ≡ checks_stack plan pred.now }
-{
-    let rule = plan.rule;
-    match rule {
-        Rule::Always => true,
-        Rule::LaneBit => some_active(plan, pred, plan.consulted),
-        Rule::ElementBit => some_active(plan, pred, plan.consulted),
-    }
-}
-
-// Whether the SP check is made and fails. SP is looked at before the lanes, which are many.
-pub(crate) fn stack_fails(x: &[u64], pred: &[u8], plan: Plan) -> bool
-    requires plan_in_range { PlanInRange plan }
-    requires x_len { length x.now ≡ 33 }
-    ensures { result ≡ stack_fails x.now plan pred.now }
-{
-    if plan.base == 31 {
-        if x[31] % 16 == 0 {
-            return false;
+    // Whether element e is asked for.
+    #[tactic(auto, unfolding(steps::specs::Lanes::wanted))]
+    pub(crate) fn asks(self, e: u64) -> bool
+        requires { e ≤ 256 }
+        ensures { result ≡ wanted self.entry.plan self.entry.pred.now e }
+    {
+        match self.plan.rule {
+            Rule::Always => true,
+            Rule::LaneBit => self.some_active(self.plan.filled),
+            Rule::ElementBit => self.lane_active(e),
         }
-        return checks_stack(plan, pred);
     }
-    false
-}
 
-// Whether the rule lets lane l take its element.
-fn may_take(plan: Plan, pred: &[u8], l: u64) -> bool
-    requires plan_in_range { PlanInRange plan }
-    requires l_bound { l ≤ 256 }
-    ensures { result ≡ may_take_by plan pred.now plan.rule l }
-{
-    let rule = plan.rule;
-    match rule {
-        Rule::Always => true,
-        Rule::LaneBit => lane_active(plan, pred, l),
-        Rule::ElementBit => lane_active(plan, pred, l % plan.elements),
+    // Whether the SP check is made: for LD1R to LD4R always, else where one of the lanes that it consults is active.
+    #[tactic(auto, unfolding(steps::specs::Lanes::checks_stack))]
+    fn checks_stack(self) -> bool
+        ensures { result ≡ checks_stack self.entry.plan self.entry.pred.now }
+    {
+        match self.plan.rule {
+            Rule::Always => true,
+            Rule::LaneBit | Rule::ElementBit => self.some_active(self.plan.consulted),
+        }
     }
-}
 
-// The element of lane l of destination j.
-pub(crate) fn lane_element(plan: Plan, j: u64, l: u64) -> u64
-    requires { PlanInRange plan }
-    ensures { result ≡ lane_element plan j l }
-{
-    let rule = plan.rule;
-    match rule {
-        Rule::Always => j,
-        Rule::LaneBit => 0,
-        Rule::ElementBit => l % plan.elements,
+    // Whether the SP check is made and fails. SP is looked at before the lanes, which are many.
+    #[tactic(auto, unfolding(steps::specs::Step::stack_fails))]
+    pub(crate) fn stack_fails(self, x: &[u64]) -> bool
+        requires { length x.now ≡ 33 }
+        ensures { result ≡ stack_fails x.now self.entry.plan self.entry.pred.now }
+    {
+        self.plan.base == 31 && x[31] % 16 != 0 && self.checks_stack()
     }
-}
 
-// Whether lane l takes its element.
-pub(crate) fn takes_element(plan: Plan, pred: &[u8], l: u64) -> bool
-    requires plan_in_range { PlanInRange plan }
-    requires l_bound { l ≤ 256 }
-    ensures { result ≡ lane_takes plan pred.now l }
-{
-    if l < plan.filled {
-        return may_take(plan, pred, l);
+    // Whether the rule lets lane l take its element.
+    fn may_take(self, l: u64) -> bool
+        requires { l ≤ 256 }
+        ensures { result ≡ may_take_by self.entry.plan self.entry.pred.now self.entry.plan.rule l }
+    {
+        match self.plan.rule {
+            Rule::Always => true,
+            Rule::LaneBit => self.lane_active(l),
+            Rule::ElementBit => self.lane_active(l % self.plan.elements),
+        }
     }
-    false
+
+    // The element of lane l of destination j.
+    #[tactic(auto, unfolding(steps::specs::Lanes::lane_element))]
+    pub(crate) fn lane_element(self, j: u64, l: u64) -> u64
+        ensures { result ≡ lane_element self.entry.plan j l }
+    {
+        match self.plan.rule {
+            Rule::Always => j,
+            Rule::LaneBit => 0,
+            Rule::ElementBit => l % self.plan.elements,
+        }
+    }
+
+    // Whether lane l takes its element.
+    #[tactic(auto, unfolding(steps::specs::Lanes::lane_takes))]
+    pub(crate) fn takes_element(self, l: u64) -> bool
+        requires { l ≤ 256 }
+        ensures { result ≡ lane_takes self.entry.plan self.entry.pred.now l }
+    {
+        l < self.plan.filled && self.may_take(l)
+    }
 }

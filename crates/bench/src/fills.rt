@@ -2,14 +2,13 @@
 ghost use Rattle.std.specs.Prelude.{◌≡◌, ◌+◌, ◌-◌, ◌*◌, ◌%◌, ◌^◌, ◌<◌, ◌≤◌, length};
 ghost use Rattle.ground.specs.Sizes.{bytes_of};
 ghost use Rattle.memory.specs.Addresses.{wrap};
-ghost use Rattle.memory.specs.Areas.{areas_of};
-ghost use Rattle.steps.specs.Outcomes.{answers_in, value_of, extended, lane_value, register_of, base_after, scalars_after};
+ghost use Rattle.steps.specs.Outcomes.{value_of, extended, base_after, scalars_after};
 ghost use Rattle.steps.specs.Inside.{PlanInRange};
 ghost use Rattle.bench.specs.Inside.{Zeroed};
+ghost use Rattle.bench.specs.Inside.Loads.{answers_to, lane_by, register_by};
 
-use crate::{actives, reads};
+use crate::reads::Load;
 use ground::Size;
-use memory::{Map, Reading};
 use steps::Plan;
 
 // The largest number of a size.
@@ -36,92 +35,40 @@ pub(crate) fn extend(signed: bool, size: Size, lane: Size, v: u64) -> u64
     v
 }
 
-// The value of element e. Where it cannot be read there is none, and no such load comes to be filled.
-fn value(
-    map: Map,
-    flash: &[u8],
-    flash_rights: &[u8],
-    ram: &[u8],
-    ram_rights: &[u8],
-    plan: Plan,
-    e: u64,
-) -> u64
-    requires { e ≤ 256 }
-    ensures { result ≡ value_of
-        (answers_in (areas_of map flash.now flash_rights.now ram.now ram_rights.now) plan e) }
-{
-    match reads::element(map, flash, flash_rights, ram, ram_rights, plan, e) {
-        Reading::Value(v) => v,
-        Reading::Bad(_, _) => 0,
+impl<'a> Load<'a> {
+    // The value of element e. Where it cannot be read there is none, and no such load comes to be filled.
+    fn value(self, e: u64) -> u64
+        requires { e ≤ 256 }
+        ensures { result ≡ value_of (answers_to self.entry e) }
+    {
+        self.element(e).unwrap_or(0)
     }
-}
 
-// What lane l of destination j becomes: the element that it takes, extended, or zero. A lane that takes none looks at no memory.
-fn lane_value(
-    map: Map,
-    flash: &[u8],
-    flash_rights: &[u8],
-    ram: &[u8],
-    ram_rights: &[u8],
-    pred: &[u8],
-    plan: Plan,
-    j: u64,
-    l: u64,
-) -> u64
-    requires plan_in_range { PlanInRange plan }
-    requires j_bound { (j ≤ 256) × (l ≤ 256) }
-    ensures { result ≡ wrap (lane_value
-        (answers_in (areas_of map flash.now flash_rights.now ram.now ram_rights.now) plan)
-        plan pred.now j l) }
-{
-    if actives::takes_element(plan, pred, l) {
-        let e = actives::lane_element(plan, j, l);
-        let v = value(map, flash, flash_rights, ram, ram_rights, plan, e);
-        let size = plan.size;
-        let lane = plan.lane;
-        return extend(plan.signed, size, lane, v);
+    // What lane l of destination j becomes: the element that it takes, extended, or zero. A lane that takes none looks at no memory.
+    #[tactic(auto, unfolding(steps::specs::Outcomes::lane_value))]
+    fn lane_value(self, j: u64, l: u64) -> u64
+        requires { (j ≤ 256) × (l ≤ 256) }
+        ensures { result ≡ wrap (lane_by self.entry j l) }
+    {
+        if self.lanes.takes_element(l) {
+            let plan = self.lanes.plan;
+            let value = self.value(self.lanes.lane_element(j, l));
+            return extend(plan.signed, plan.size, plan.lane, value);
+        }
+        0
     }
-    0
-}
 
-// Fills destination j, a register of whole lanes, each lane's element read by itself.
-pub(crate) fn fill(
-    dst: &mut [u8],
-    map: Map,
-    flash: &[u8],
-    flash_rights: &[u8],
-    ram: &[u8],
-    ram_rights: &[u8],
-    pred: &[u8],
-    plan: Plan,
-    j: u64,
-)
-    requires plan_in_range { PlanInRange plan }
-    requires j_bound { (j ≤ 256) × (length dst.old ≤ 256) × (length dst.old % 8 ≡ 0) }
-    ensures { dst.new ≡ register_of
-        (answers_in (areas_of map flash.now flash_rights.now ram.now ram_rights.now) plan)
-        plan pred.now j (length dst.old) }
-{
-    let lane = plan.lane;
-    let width = lane.bytes() as usize;
-    let lanes = dst.len() / width;
-    let mut l = 0;
-    while l < lanes {
-        let v = lane_value(
-            map,
-            flash,
-            flash_rights,
-            ram,
-            ram_rights,
-            pred,
-            plan,
-            j,
-            l as u64,
-        );
-        let at = l * width;
-        let end = at + width;
-        ground::put(&mut dst[at..end], v);
-        l += 1;
+    // Fills destination j, a register of whole lanes, each lane's element read by itself.
+    #[tactic(auto, unfolding(steps::specs::Outcomes::register_of))]
+    pub(crate) fn fill(self, dst: &mut [u8], j: u64)
+        requires { (j ≤ 256) × (length dst.old ≡ self.lanes.register_bytes) }
+        ensures { dst.new ≡ register_by self.entry j (length dst.old) }
+    {
+        let width = self.lanes.plan.lane.bytes() as usize;
+        for l in 0..dst.len() / width {
+            let at = l * width;
+            ground::put(&mut dst[at..at + width], self.lane_value(j, l as u64));
+        }
     }
 }
 
@@ -134,23 +81,25 @@ pub(crate) fn zeros(dst: &mut [u8], from: usize)
 }
 
 // Writes the base back where the plan says so.
+#[tactic(auto, unfolding(steps::specs::Outcomes::base_after))]
 fn base(x: &mut [u64], plan: Plan)
     requires { plan.base < length x.old }
     ensures { x.new ≡ base_after plan x.old }
 {
-    if plan.back {
+    if let Some(n) = plan.back {
         let at = plan.base as usize;
-        x[at] = std::num::wrapping_add_u64(x[at], plan.amount);
+        x[at] = x[at].wrapping_add(n);
     }
 }
 
 // Writes the base back and moves PC on. The base is never PC.
+#[tactic(auto, unfolding(steps::specs::Outcomes::scalars_after))]
 pub(crate) fn scalars(x: &mut [u64], plan: Plan)
     requires plan_in_range { PlanInRange plan }
     requires x_len { length x.old ≡ 33 }
     ensures { x.new ≡ scalars_after plan x.old }
 {
-    let pc = std::num::wrapping_add_u64(x[32], 4);
+    let pc = x[32].wrapping_add(4);
     base(x, plan);
     x[32] = pc;
 }

@@ -6,32 +6,59 @@ mod chunks;
 mod fills;
 mod quick;
 mod reads;
-mod results;
 mod roads;
 mod stretches;
 
-ghost use Rattle.std.specs.Prelude.{◌≡◌, ◌/◌, true};
-ghost use Rattle.steps.specs.Benches.{are_files_accepted, is_accepted};
+ghost use Rattle.std.specs.Prelude.{◌≡◌, ◌/◌, ◌^◌, length};
+ghost use Rattle.ground.specs.Lists.{EachBelow};
+ghost use Rattle.memory.specs.Areas.{areas_of, areas_from};
+ghost use Rattle.steps.specs.Benches.{are_files_accepted, lent_of};
+ghost use Rattle.steps.specs.Said.{Accepted};
 ghost use Rattle.steps.specs.Inside.{PlanInRange};
 ghost use Rattle.steps.specs.Step.{prepared_of, StepPromise};
 ghost use Rattle.plans.specs.Inside.{Shaped};
-ghost use Rattle.bench.specs.Lends.{lent_of, bench_of};
-ghost use Rattle.bench.specs.Inside.{stacked, EndsAs};
+ghost use Rattle.bench.specs.Lends.{bench_of};
+ghost use Rattle.bench.specs.Inside.{stacked, AreBytes, EndsAs};
 
-use memory::Map;
-use results::ended;
-use steps::{Answer, Plan, Planned, Settings, StepResult};
+use actives::Lanes;
+use memory::{Area, Areas, Map};
+use reads::Load;
+use steps::{Answer, Lent, Plan, StepResult};
 
-// Whether the vector length is allowed, and files of z bytes, p bytes and x numbers are as long as it asks.
-fn files_accepted(vl: u64, z: usize, p: usize, x: usize) -> bool
-    ensures { result ≡ are_files_accepted vl z p x }
+// Whether the vector length is allowed, and the files are as long as it asks.
+fn files_accepted(vl: u64, z: &[u8], predicates: &[u8], x: &[u64]) -> bool
+    ensures accepted { result ≡ are_files_accepted vl (length z.now) (length predicates.now) (length x.now) }
+    ensures in_types { (EachBelow 256 z.now) × (EachBelow 256 predicates.now) × EachBelow (2 ^ 64) x.now }
 {
-    if steps::allowed(vl) {
-        let z_asked = 32 * (vl / 8);
-        let p_asked = 16 * (vl / 64);
-        return (z as u64 == z_asked) & (p as u64 == p_asked) & (x == 33);
+    steps::allowed(vl)
+        && z.len() as u64 == 32 * (vl / 8)
+        && predicates.len() as u64 == 16 * (vl / 64)
+        && x.len() == 33
+}
+
+// The two areas, of bytes.
+fn areas<'a>(
+    map: Map,
+    flash: &'a [u8],
+    flash_rights: &'a [u8],
+    ram: &'a [u8],
+    ram_rights: &'a [u8],
+) -> Areas<'a>
+    ensures lent { areas_of result ≡ areas_from map flash.now flash_rights.now ram.now ram_rights.now }
+    ensures in_types { AreBytes (areas_from map flash.now flash_rights.now ram.now ram_rights.now) }
+{
+    Areas {
+        flash: Area {
+            start: map.flash,
+            bytes: flash,
+            rights: flash_rights,
+        },
+        ram: Area {
+            start: map.ram,
+            bytes: ram,
+            rights: ram_rights,
+        },
     }
-    false
 }
 
 // Carries a plan out: the stack rule, then the load, and where that ran the base and PC. The governing predicate's part is taken here,
@@ -40,31 +67,38 @@ fn carry_out<'a>(
     z: &mut [u8],
     x: &mut [u64],
     ram: &'a [u8],
-    settings: Settings,
-    p: &[u8],
-    map: Map,
-    flash: &'a [u8],
-    flash_rights: &[u8],
-    ram_rights: &[u8],
+    lent: Lent<'a>,
     plan: Plan,
 ) -> StepResult
-    requires accepted { is_accepted (lent_of settings p.now map flash.now flash_rights.now ram_rights.now) (bench_of z.old x.old ram.now) ≡ true }
-    requires plan_in_range { (PlanInRange plan) × Shaped plan (settings.vl / 8) }
-    ensures { EndsAs (stacked plan)
-        (lent_of settings p.now map flash.now flash_rights.now ram_rights.now)
-        (bench_of z.old x.old ram.now) result (bench_of z.new x.new ram.now) }
+    requires accepted { Accepted (lent_of lent) (bench_of z.old x.old ram.now) }
+    requires plan_in_range { (PlanInRange plan) × Shaped plan (lent.settings.vl / 8) }
+    ensures { EndsAs (stacked plan) (lent_of lent.entry) (bench_of z.old x.old ram.now) result (bench_of z.new x.new ram.now) }
 {
-    let k = (settings.vl / 64) as usize;
-    let pred = actives::governing_bytes(p, k, plan);
-    if actives::stack_fails(x, pred, plan) {
-        return ended(0, Answer::Stack);
+    let k = (lent.settings.vl / 64) as usize;
+    let lanes = Lanes {
+        plan,
+        pred: actives::governing_bytes(lent.predicates, k, plan),
+        register_bytes: (lent.settings.vl / 8) as usize,
+    };
+    if lanes.stack_fails(x) {
+        return StepResult {
+            count: 0,
+            answer: Answer::Stack,
+        };
     }
-    let n = (settings.vl / 8) as usize;
-    let found = roads::load(z, n, map, flash, flash_rights, ram, ram_rights, pred, plan);
-    let answer = found.answer;
-    if answer.number() == 0 {
+    let load = Load {
+        lanes,
+        areas: areas(
+            lent.map,
+            lent.flash,
+            lent.flash_rights,
+            ram,
+            lent.ram_rights,
+        ),
+    };
+    let found = load.run(z);
+    if matches!(found.answer, Answer::Ran) {
         fills::scalars(x, plan);
-        return found;
     }
     found
 }
@@ -75,68 +109,33 @@ fn accepted_step<'a>(
     x: &mut [u64],
     ram: &'a [u8],
     word: u32,
-    settings: Settings,
-    p: &[u8],
-    map: Map,
-    flash: &'a [u8],
-    flash_rights: &[u8],
-    ram_rights: &[u8],
+    lent: Lent<'a>,
 ) -> StepResult
-    requires { is_accepted (lent_of settings p.now map flash.now flash_rights.now ram_rights.now) (bench_of z.old x.old ram.now) ≡ true }
-    ensures { EndsAs (λ l b. prepared_of l b.scalars word)
-        (lent_of settings p.now map flash.now flash_rights.now ram_rights.now)
-        (bench_of z.old x.old ram.now) result (bench_of z.new x.new ram.now) }
+    requires { Accepted (lent_of lent) (bench_of z.old x.old ram.now) }
+    ensures { EndsAs (λ l b. prepared_of l b.scalars word) (lent_of lent.entry) (bench_of z.old x.old ram.now) result (bench_of z.new x.new ram.now) }
 {
-    match plans::prepare(settings, x, word) {
-        Planned::Stop(answer) => ended(0, answer),
-        Planned::Go(plan) => {
-            carry_out(
-                z,
-                x,
-                ram,
-                settings,
-                p,
-                map,
-                flash,
-                flash_rights,
-                ram_rights,
-                plan,
-            )
-        }
+    match plans::prepare(lent.settings, x, word) {
+        Err(answer) => StepResult { count: 0, answer },
+        Ok(plan) => carry_out(z, x, ram, lent, plan),
     }
 }
 
 // One step. The vector file and the scalars are lent to be written; RAM is lent beside them, to be read.
-pub fn step<'a>(
-    z: &mut [u8],
-    x: &mut [u64],
-    ram: &'a [u8],
-    word: u32,
-    settings: Settings,
-    p: &[u8],
-    map: Map,
-    flash: &'a [u8],
-    flash_rights: &[u8],
-    ram_rights: &[u8],
-) -> StepResult
-    ensures { let l = lent_of settings p.now map flash.now flash_rights.now ram_rights.now in
-        StepPromise l word (bench_of z.old x.old ram.now) result l (bench_of z.new x.new ram.now) }
+pub fn step<'a>(z: &mut [u8], x: &mut [u64], ram: &'a [u8], word: u32, lent: Lent<'a>) -> StepResult
+    ensures { let l = lent_of lent.entry in StepPromise l word (bench_of z.old x.old ram.now) result l (bench_of z.new x.new ram.now) }
 {
-    if files_accepted(settings.vl, z.len(), p.len(), x.len()) {
-        if memory::areas_accepted(map, flash, flash_rights, ram, ram_rights) {
-            return accepted_step(
-                z,
-                x,
-                ram,
-                word,
-                settings,
-                p,
-                map,
-                flash,
-                flash_rights,
-                ram_rights,
-            );
-        }
+    let areas = areas(
+        lent.map,
+        lent.flash,
+        lent.flash_rights,
+        ram,
+        lent.ram_rights,
+    );
+    if files_accepted(lent.settings.vl, z, lent.predicates, x) && areas.accepted() {
+        return accepted_step(z, x, ram, word, lent);
     }
-    ended(0, Answer::SetUp)
+    StepResult {
+        count: 0,
+        answer: Answer::SetUp,
+    }
 }

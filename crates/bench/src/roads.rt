@@ -1,158 +1,99 @@
 // The two roads of a load past the stack rule: where all its elements lie together its destinations are filled from that stretch, and else
 // it goes one by one through the elements that it asks for, and then through its destinations.
-ghost use Rattle.std.specs.Prelude.{◌≡◌, ◌*◌, ◌%◌, ◌<◌, ◌≤◌, length};
+ghost use Rattle.std.specs.Prelude.{◌≡◌, ◌*◌, ◌<◌, ◌≤◌, length};
 ghost use Rattle.memory.specs.Areas.{areas_of};
 ghost use Rattle.memory.specs.Said.{AreasAccepted};
 ghost use Rattle.steps.specs.Lanes.{destinations_in, destination_of};
 ghost use Rattle.ground.specs.Sizes.{bytes_of};
-ghost use Rattle.steps.specs.Outcomes.{answers_in, survey_of, register_of, vectors_after};
 ghost use Rattle.steps.specs.Inside.{PlanInRange};
-ghost use Rattle.bench.specs.Inside.Quick.{answers_from, FillFits, ReplicateIn, ReplicatesIn, DestinationOut, ReplicatesOut};
+ghost use Rattle.bench.specs.Inside.Loads.{survey_by, register_by, vectors_by, TargetedBy};
+ghost use Rattle.bench.specs.Inside.Quick.{answers_from, ReplicateIn, ReplicatesIn, DestinationOut, ReplicatesOut};
 ghost use Rattle.bench.specs.Inside.Roads.{Targeted, RanWith};
 
-use crate::results::ended;
-use crate::{fills, quick, reads, stretches};
-use memory::Map;
+use crate::actives::Lanes;
+use crate::reads::Load;
+use crate::{fills, quick, stretches};
 use steps::{Answer, Plan, Rule, StepResult};
 
-// What a load that ran writes into destination j, element by element: where it read nothing, zeros.
-fn written(
-    dst: &mut [u8],
-    map: Map,
-    flash: &[u8],
-    flash_rights: &[u8],
-    ram: &[u8],
-    ram_rights: &[u8],
-    pred: &[u8],
-    plan: Plan,
-    j: u64,
-    count: u64,
-)
-    requires plan_in_range { PlanInRange plan }
-    requires j_bound { (j < destinations_in plan) × (length dst.old ≤ 256) × (length dst.old % 8 ≡ 0) }
-    requires ran_with { RanWith (survey_of (answers_in (areas_of map flash.now flash_rights.now ram.now ram_rights.now) plan) plan pred.now) count }
-    ensures { dst.new ≡ register_of
-        (answers_in (areas_of map flash.now flash_rights.now ram.now ram_rights.now) plan)
-        plan pred.now j (length dst.old) }
-{
-    if count == 0 {
-        fills::zeros(dst, 0)
-    } else {
-        fills::fill(
-            dst,
-            map,
-            flash,
-            flash_rights,
-            ram,
-            ram_rights,
-            pred,
-            plan,
-            j,
-        )
-    }
-}
-
 // The register that destination j is: from the target on, 31 followed by 0.
+#[tactic(auto, unfolding(steps::specs::Lanes::destination_of))]
 fn destination(plan: Plan, j: u64) -> usize
     requires { (PlanInRange plan) × (j ≤ 256) }
-    ensures { result ≡ destination_of plan j }
+    ensures is { result ≡ destination_of plan j }
+    ensures in_file { result < 32 }
 {
     ((plan.target as u64 + j) % 32) as usize
 }
 
 // How many destinations a load has: LD1R to LD4R have one for each element, and every other load has one.
+#[tactic(auto, unfolding(steps::specs::Lanes::destinations_in))]
 fn destinations_in(plan: Plan) -> u64
     ensures { result ≡ destinations_in plan }
 {
-    let rule = plan.rule;
-    match rule {
+    match plan.rule {
         Rule::Always => plan.elements,
         Rule::LaneBit => 1,
         Rule::ElementBit => 1,
     }
 }
 
-// Every destination of a load that ran, one after the other, each a part of a vector file of 32 registers of n bytes, which is lent on to be
-// written.
-fn destinations(
-    z: &mut [u8],
-    n: usize,
-    map: Map,
-    flash: &[u8],
-    flash_rights: &[u8],
-    ram: &[u8],
-    ram_rights: &[u8],
-    pred: &[u8],
-    plan: Plan,
-    count: u64,
-)
-    requires plan_in_range { PlanInRange plan }
-    requires z_len { (length z.old ≡ 32 * n) × (n ≤ 256) × (n % 8 ≡ 0) }
-    requires ran_with { RanWith (survey_of (answers_in (areas_of map flash.now flash_rights.now ram.now ram_rights.now) plan) plan pred.now) count }
-    ensures { z.new ≡ vectors_after
-        (answers_in (areas_of map flash.now flash_rights.now ram.now ram_rights.now) plan)
-        plan pred.now n z.old (destinations_in plan) }
-{
-    let all = destinations_in(plan);
-    let mut j: u64 = 0;
-    while j < all {
-        let at = destination(plan, j) * n;
-        let end = at + n;
-        written(
-            &mut z[at..end],
-            map,
-            flash,
-            flash_rights,
-            ram,
-            ram_rights,
-            pred,
-            plan,
-            j,
-            count,
-        );
-        j += 1;
+impl<'a> Load<'a> {
+    // What a load that ran writes into destination j, element by element: where it read nothing, zeros.
+    fn written(self, dst: &mut [u8], j: u64, count: u64)
+        requires j_bound { (j < destinations_in self.lanes.plan) × (length dst.old ≡ self.lanes.register_bytes) }
+        requires ran_with { RanWith (survey_by self) count }
+        ensures { dst.new ≡ register_by self.entry j (length dst.old) }
+    {
+        if count == 0 {
+            fills::zeros(dst, 0)
+        } else {
+            self.fill(dst, j)
+        }
     }
-}
 
-// One by one: first a survey that only reads; the destinations are filled only if it met no bad byte.
-fn one_by_one(
-    z: &mut [u8],
-    n: usize,
-    map: Map,
-    flash: &[u8],
-    flash_rights: &[u8],
-    ram: &[u8],
-    ram_rights: &[u8],
-    pred: &[u8],
-    plan: Plan,
-) -> StepResult
-    requires plan_in_range { PlanInRange plan }
-    requires z_len { (length z.old ≡ 32 * n) × (n ≤ 256) × (n % 8 ≡ 0) }
-    ensures { Targeted
-        (answers_in (areas_of map flash.now flash_rights.now ram.now ram_rights.now) plan)
-        plan pred.now n z.old result z.new }
-{
-    let found = reads::survey(map, flash, flash_rights, ram, ram_rights, pred, plan);
-    let answer = found.answer;
-    if answer.number() == 0 {
-        destinations(
-            z,
-            n,
-            map,
-            flash,
-            flash_rights,
-            ram,
-            ram_rights,
-            pred,
-            plan,
-            found.count,
-        );
-        return found;
+    // Every destination of a load that ran, one after the other, each a part of the vector file that is lent on to be written.
+    #[tactic(auto, using(crate::proofs::Files::in_32))]
+    fn destinations(self, z: &mut [u8], count: u64)
+        requires z_len { length z.old ≡ 32 * self.lanes.register_bytes }
+        requires ran_with { RanWith (survey_by self) count }
+        ensures { z.new ≡ vectors_by self.entry z.old (destinations_in self.entry.lanes.plan) }
+    {
+        let n = self.lanes.register_bytes;
+        for j in 0..destinations_in(self.lanes.plan) {
+            let at = destination(self.lanes.plan, j) * n;
+            self.written(&mut z[at..at + n], j, count);
+        }
     }
-    found
+
+    // One by one: first a survey that only reads; the destinations are filled only if it met no bad byte.
+    fn one_by_one(self, z: &mut [u8]) -> StepResult
+        requires { length z.old ≡ 32 * self.lanes.register_bytes }
+        ensures { TargetedBy self.entry z.old result z.new }
+    {
+        let found = self.survey();
+        if matches!(found.answer, Answer::Ran) {
+            self.destinations(z, found.count);
+        }
+        found
+    }
+
+    // A load into the plan's destinations, in a vector file of 32 registers.
+    pub(crate) fn run(self, z: &mut [u8]) -> StepResult
+        requires areas_accepted { AreasAccepted (areas_of self.areas) }
+        requires z_len { length z.old ≡ 32 * self.lanes.register_bytes }
+        ensures { TargetedBy self.entry z.old result z.new }
+    {
+        let plan = self.lanes.plan;
+        let all_bytes = (plan.elements * plan.size.bytes()) as usize;
+        match stretches::find(self.areas, plan.start, all_bytes) {
+            Some(stretch) => from_stretch(z, stretch, self.lanes),
+            None => self.one_by_one(z),
+        }
+    }
 }
 
 // Destination j of LD1R to LD4R, a middle part of the vector file, which is lent on to be filled from its own element in a stretch.
+#[tactic(auto, using(crate::proofs::Files::in_32))]
 fn replicate_at(
     z: &mut [u8],
     n: usize,
@@ -166,8 +107,7 @@ fn replicate_at(
     ensures { DestinationOut plan stretch.now j n z.old z.new }
 {
     let at = destination(plan, j) * n;
-    let next = at + n;
-    quick::replicate(&mut z[at..next], stretch, plan, j, element_bytes, end);
+    quick::replicate(&mut z[at..at + n], stretch, plan, j, element_bytes, end);
 }
 
 // The destinations of LD1R to LD4R. The first has a call of its own: LD1R has no other.
@@ -175,66 +115,32 @@ fn replicates(z: &mut [u8], n: usize, stretch: &[u8], plan: Plan)
     requires { (ReplicatesIn plan stretch.now n) × (length z.old ≡ 32 * n) }
     ensures { ReplicatesOut plan stretch.now n z.old z.new }
 {
-    let size = plan.size;
-    let element_bytes = size.bytes() as usize;
+    let element_bytes = plan.size.bytes() as usize;
     let end = plan.filled as usize * element_bytes;
     replicate_at(z, n, stretch, plan, 0, element_bytes, end);
-    let mut j: u64 = 1;
-    while j < plan.elements {
+    for j in 1..plan.elements {
         replicate_at(z, n, stretch, plan, j, element_bytes, end);
-        j += 1;
     }
 }
 
-// A load whose elements all lie in a stretch. A destination is a middle part of the vector file, of 32 registers of n bytes, and is lent on to
-// be filled.
-fn from_stretch(z: &mut [u8], n: usize, stretch: &[u8], pred: &[u8], plan: Plan) -> StepResult
-    requires { (FillFits plan pred.now n) × (length stretch.now ≡ plan.elements * bytes_of plan.size) × (length z.old ≡ 32 * n) }
-    ensures { Targeted (answers_from stretch.now plan) plan pred.now n z.old result z.new }
+// A load whose elements all lie in a stretch. A destination is a middle part of the vector file, of 32 registers, and is lent on to be filled.
+fn from_stretch(z: &mut [u8], stretch: &[u8], lanes: Lanes) -> StepResult
+    requires { (length stretch.now ≡ lanes.plan.elements * bytes_of lanes.plan.size) × (length z.old ≡ 32 * lanes.register_bytes) }
+    ensures { Targeted (answers_from stretch.now lanes.entry.plan) lanes.entry.plan lanes.entry.pred.now lanes.entry.register_bytes z.old result z.new }
 {
-    let rule = plan.rule;
-    if quick::always(rule) {
+    let plan = lanes.plan;
+    let n = lanes.register_bytes;
+    if quick::always(plan.rule) {
         replicates(z, n, stretch, plan);
-        return ended(plan.elements, Answer::Ran);
+        return StepResult {
+            count: plan.elements,
+            answer: Answer::Ran,
+        };
     }
     let at = plan.target as usize * n;
-    let end = at + n;
-    let count = quick::fill(&mut z[at..end], stretch, pred, plan);
-    ended(count, Answer::Ran)
-}
-
-// A load into the plan's destinations, in a vector file of 32 registers of n bytes.
-pub(crate) fn load<'a>(
-    z: &mut [u8],
-    n: usize,
-    map: Map,
-    flash: &'a [u8],
-    flash_rights: &[u8],
-    ram: &'a [u8],
-    ram_rights: &[u8],
-    pred: &[u8],
-    plan: Plan,
-) -> StepResult
-    requires areas_accepted { AreasAccepted (areas_of map flash.now flash_rights.now ram.now ram_rights.now) }
-    requires fill_fits { FillFits plan pred.now n }
-    requires z_len { length z.old ≡ 32 * n }
-    ensures { Targeted
-        (answers_in (areas_of map flash.now flash_rights.now ram.now ram_rights.now) plan)
-        plan pred.now n z.old result z.new }
-{
-    let size = plan.size;
-    let all_bytes = (plan.elements * size.bytes()) as usize;
-    let stretch = stretches::find(
-        map,
-        flash,
-        flash_rights,
-        ram,
-        ram_rights,
-        plan.start,
-        all_bytes,
-    );
-    if stretch.len() == all_bytes {
-        return from_stretch(z, n, stretch, pred, plan);
+    let count = quick::fill(&mut z[at..at + n], stretch, lanes.pred, plan);
+    StepResult {
+        count,
+        answer: Answer::Ran,
     }
-    one_by_one(z, n, map, flash, flash_rights, ram, ram_rights, pred, plan)
 }

@@ -4,11 +4,11 @@
 
 ghost use Rattle.std.specs.Prelude.{◌≡◌};
 ghost use Rattle.steps.specs.Answers.{report_of};
-ghost use Rattle.bench.specs.Lends.{lent_of, bench_of};
+ghost use Rattle.bench.specs.Lends.{lent_from, bench_of};
 ghost use Rattle.hosts.specs.Hosts.{settings_of, map_of, report_in, HostPromise};
 
 use memory::{Address, Map};
-use steps::{Settings, StepResult};
+use steps::{Lent, Settings, StepResult};
 
 // What a step tells a host: the answer's number, the count of element reads, and the element and address of a fault.
 #[repr(C)]
@@ -33,7 +33,8 @@ fn numbered(res: StepResult) -> StepNumbers
     }
 }
 
-// One step. What it may write is lent first, and RAM, to be read, beside that. The crate hosts_c exports it to C under this name.
+// One step. What it may write is lent first, and RAM, to be read, beside that. The crate hosts_c exports it to C under this name, which
+// is why it takes numbers and slices one by one, and no struct.
 pub fn kjolvast_step<'a>(
     z: &mut [u8],
     x: &mut [u64],
@@ -43,39 +44,33 @@ pub fn kjolvast_step<'a>(
     simd: bool,
     sve: bool,
     f64mm: bool,
-    p: &[u8],
+    p: &'a [u8],
     flash_start: u64,
     ram_start: u64,
     flash: &'a [u8],
-    flash_rights: &[u8],
-    ram_rights: &[u8],
+    flash_rights: &'a [u8],
+    ram_rights: &'a [u8],
 ) -> StepNumbers
-    ensures { let l = lent_of (settings_of vl simd sve f64mm) p.now
+    ensures { let l = lent_from (settings_of vl simd sve f64mm) p.now
         (map_of flash_start ram_start) flash.now flash_rights.now ram_rights.now in
         HostPromise l word (bench_of z.old x.old ram.now)
         result l (bench_of z.new x.new ram.now) }
 {
-    let settings = Settings {
-        vl,
-        simd,
-        sve,
-        f64mm,
-    };
-    let map = Map {
-        flash: Address(flash_start),
-        ram: Address(ram_start),
-    };
-    let result = bench::step(
-        z,
-        x,
-        ram,
-        word,
-        settings,
-        p,
-        map,
+    let lent = Lent {
+        settings: Settings {
+            vl,
+            simd,
+            sve,
+            f64mm,
+        },
+        predicates: p,
+        map: Map {
+            flash: Address(flash_start),
+            ram: Address(ram_start),
+        },
         flash,
         flash_rights,
         ram_rights,
-    );
-    numbered(result)
+    };
+    numbered(bench::step(z, x, ram, word, lent))
 }

@@ -1,7 +1,7 @@
 // The step for a host in C: `hosts::kjolvast_step` under its name, with the same promise. Each slice is a pointer and a length.
 #![tactic(auto)]
 
-ghost use Rattle.bench.specs.Lends.{lent_of, bench_of};
+ghost use Rattle.bench.specs.Lends.{lent_from, bench_of};
 ghost use Rattle.hosts.specs.Hosts.{settings_of, map_of, HostPromise};
 
 use hosts::StepNumbers;
@@ -17,14 +17,14 @@ pub extern "C" fn kjolvast_step<'a>(
     simd: bool,
     sve: bool,
     f64mm: bool,
-    p: &[u8],
+    p: &'a [u8],
     flash_start: u64,
     ram_start: u64,
     flash: &'a [u8],
-    flash_rights: &[u8],
-    ram_rights: &[u8],
+    flash_rights: &'a [u8],
+    ram_rights: &'a [u8],
 ) -> StepNumbers
-    ensures { let l = lent_of (settings_of vl simd sve f64mm) p.now
+    ensures { let l = lent_from (settings_of vl simd sve f64mm) p.now
         (map_of flash_start ram_start) flash.now flash_rights.now ram_rights.now in
         HostPromise l word (bench_of z.old x.old ram.now)
         result l (bench_of z.new x.new ram.now) }

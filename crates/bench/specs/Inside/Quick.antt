@@ -1,13 +1,12 @@
 -- A load whose elements lie together in a stretch: what the stretch says of them, and what the functions that fill from it promise. A
 -- chunk is eight bytes of a register, over which one byte of bits decides. This file serves proofs alone, and nothing in it has to be
 -- believed: the promise of `step` is StepPromise of steps.
-use Rattle.std.specs.Prelude.{if◌then◌else◌, ◌≡◌, ℕ, ◌+◌, ◌*◌, ◌/◌, ◌%◌, ◌^◌, ◌<◌, ◌≤◌, Bool, true, false, List, length, nat_lt, slice_index}
+use Rattle.std.specs.Prelude.{if◌then◌else◌, ◌≡◌, ℕ, ◌+◌, ◌*◌, ◌/◌, ◌%◌, ◌^◌, ◌<◌, ◌≤◌, Bool, true, false, List, Ok, length, nat_lt, slice_index}
 use Rattle.ground.specs.Lists.{replaced, bytes_at}
 use Rattle.ground.specs.Sizes.{bytes_of}
 use Rattle.ground.proofs.Fills.{Filled}
 use Rattle.memory.specs.Addresses.{wrap}
-use Rattle.memory.specs.declared.Reading.{Reading}
-use Rattle.memory.specs.declared.Reading.TheVariants.{Value}
+use Rattle.memory.specs.Elements.{Reading}
 use Rattle.steps.specs.Lanes.{bit_of, wanted, destination_of}
 use Rattle.steps.specs.Outcomes.{extended, register_of, vectors_after}
 use Rattle.steps.specs.Inside.{PlanInRange}
@@ -20,7 +19,7 @@ use Rattle.bench.specs.declared.chunks.Lanes.{Lanes}
 
 -- what a stretch that starts with element 0 says of element e
 unfoldable pub answers_from : List ℕ → Plan → ℕ → Reading
-answers_from s p e = Value (bytes_at s (e * bytes_of p.size) (bytes_of p.size))
+answers_from s p e = Ok (bytes_at s (e * bytes_of p.size) (bytes_of p.size))
 
 -- lanes that are filled from a stretch: lane l is on where its bit is 1, and then has the element l strides on from a place, extended to 64
 -- bits; it keeps as many of these bytes as it has

@@ -1,7 +1,7 @@
 -- How a load ends, over any answers of memory, whichever road it took. This file serves proofs alone, and nothing in it has to be
 -- believed: the promise of `step` is StepPromise of steps.
 use Rattle.std.specs.Prelude.{if◌then◌else◌, ◌≡◌, ℕ, List, nat_eq}
-use Rattle.memory.specs.declared.Reading.{Reading}
+use Rattle.memory.specs.Elements.{Reading}
 use Rattle.steps.specs.Answers.{Report, number_of, report_of}
 use Rattle.steps.specs.Lanes.{destinations_in}
 use Rattle.steps.specs.Outcomes.{survey_of, vectors_after}
