@@ -19,7 +19,7 @@ fn copies(dst: &mut [u8], block: usize, end: usize)
     }
 }
 
-// The same. LD1RQ's block is a constant in its call, which the compiler makes the quicker loop for: without it, all loads mixed take 4 to 14 %
+// The same. LD1RQ's block is a constant in its call, which the compiler makes the quicker loop for: without it, all loads mixed take 4 to 15 %
 // more instructions.
 fn blocks(dst: &mut [u8], block: usize, end: usize)
     requires { (0 < block) × (end ≤ length dst.old) }
