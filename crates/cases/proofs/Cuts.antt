@@ -25,7 +25,7 @@ module _ (s : List ℕ) (at n : ℕ) where
   part_long : at + n ≤ length s → length (part_at s at n) ≡ n
   part_long fits = simp (length-take, length-drop) (omega arith)
 
-  byte_in : (j : ℕ) → j < n → get_or (part_at s at n) j 0 ≡ get_or s (at + j) 0
+  pub byte_in : (j : ℕ) → j < n → get_or (part_at s at n) j 0 ≡ get_or s (at + j) 0
   byte_in j l = get_or-take n (drop at s) j 0 l ∙ get_or-drop at s j 0
 
   -- and the number that they make

@@ -1,11 +1,13 @@
 -- The flags of a case: three bits and the kind of question, packed into one number and taken out of it.
 use Prim.Native.Nat.{ℕ, zero, suc, ◌+◌, ◌*◌, ◌/◌, ◌%◌, ◌^◌, ◌≤◌, ◌<◌}
 use mathlib.Core.Path.{◌≡◌, refl}
-use mathlib.Core.Bool.{Bool, true, false, ◌||◌}
+use mathlib.Core.Bool.{Bool, true, false, not, ◌||◌}
+use Rattle.std.specs.Prelude.{bit_and}
+use Rattle.std.proofs.lemmas.Nat.Bits.{and_pow}
 use mathlib.Core.Logic.{◌⊎◌, inl, inr}
-use native.Mathlib.Nat.{mod-lt, div-div-eq-div-mul}
+use native.Mathlib.Nat.{zero-mul, one-mul, one-le-pow, mod-lt, div-div-eq-div-mul}
 use native.Mathlib.Omega.{arith}
-use borrow.Author.Tests.{ltb-false, le-ltb, eqb-false}
+use borrow.Author.Tests.{ltb-false, le-ltb, eqb-false, ne_eqb}
 use lib.Dec.{eqb, lit<, lit≤}
 use Rattle.ground.proofs.Laws.{never}
 use Rattle.cases.specs.Parts.{kind_in, carried}
@@ -26,6 +28,26 @@ test_bit : (n : ℕ) → n < 2 → bit_of (eqb n 1) ≡ n
 test_bit zero h = refl
 test_bit (suc zero) h = refl
 test_bit (suc (suc n)) h = absurd (omega arith)
+
+-- a bit that a mask leaves is one that the digit has
+masked : (n k : ℕ) → not (eqb (bit_and n (2 ^ k)) 0) ≡ flag_of n k
+masked n k = rw and_pow (go (n / 2 ^ k % 2) (mod-lt (n / 2 ^ k) (lit< tt)))
+  where
+    go : (b : ℕ) → b < 2 → not (eqb (b * 2 ^ k) 0) ≡ eqb b 1
+    go zero h = rw zero-mul
+    go (suc zero) h = rw one-mul (rw (ne_eqb (2 ^ k) 0 (λ e. let some : 1 ≤ 2 ^ k = one-le-pow k 2 (lit< tt) in omega arith)))
+    go (suc (suc b)) h = absurd (omega arith)
+
+pub masked_0 : (n : ℕ) → not (eqb (bit_and n 1) 0) ≡ flag_of n 0
+masked_0 n = masked n 0
+
+pub masked_1 : (n : ℕ) → not (eqb (bit_and n 2) 0) ≡ flag_of n 1
+masked_1 n = masked n 1
+
+pub masked_2 : (n : ℕ) → not (eqb (bit_and n 4) 0) ≡ flag_of n 2
+masked_2 n = masked n 2
+
+pub ruleset flags_masked = (masked_0, masked_1, masked_2)
 
 -- neither of two tests holds
 or_off : (a b : Bool) → (a || b) ≡ false → (a ≡ false) × (b ≡ false)

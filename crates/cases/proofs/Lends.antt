@@ -1,37 +1,54 @@
--- A case's parts, as they are lent to a step.
-use mathlib.Core.Path.{◌≡◌}
-use mathlib.Core.List.{List}
-use Prim.Native.Nat.{ℕ, ◌+◌, ◌-◌}
-use native.Mathlib.Nat.{add-sub_cancel_left}
-use lib.ListN.{take, drop}
-use Rattle.memory.specs.Areas.{areas_of}
-use Rattle.steps.specs.Step.{StepPromise}
-use Rattle.steps.specs.declared.StepResult.{StepResult}
-use Rattle.bench.specs.Lends.{lent_of, bench_of}
-use Rattle.cases.specs.Parts.{part_at, vectors_at, predicates_at, flash_at, flash_rights_at, ram_at, ram_rights_at, scalars_in, lent_in, bench_in, areas_in}
+-- The parts of a case, cut out of its bytes one behind the other.
+use Rattle.std.proofs.Common.{◌≡◌, ℕ, ◌+◌, ◌*◌, ◌/◌, ◌≤◌, List, length, take, drop, get_or, ◌∙◌, ap, arith, drop-drop, length-take, length-drop}
+use Rattle.ground.specs.Lists.{listed, bytes_at}
+use Rattle.ground.proofs.Laws.{listed_cong, little_cong}
+use Rattle.steps.specs.Benches.{Bench, lent_of}
+use Rattle.steps.specs.Benches as S
+use Rattle.cases.specs.Parts.{part_at, vectors_at, scalars_at, ram_at, case_bytes, scalars_in, vectors_in, lent_in, bench_in, areas_in}
+use Rattle.cases.specs.Inside.{bench_by, areas_by}
 use Rattle.cases.specs.declared.heads.Case.{Case}
+use Rattle.cases.specs.declared.parts.Parts.{Parts}
+use Rattle.cases.proofs.Cuts.{byte_in}
 
--- a part of a slice, from a place to n bytes on
-pub cut : (s : List ℕ) (at n : ℕ) → take (at + n - at) (drop at s) ≡ part_at s at n
-cut s at n = rw add-sub_cancel_left
+-- r is what s has from a place on
+pub record From (s : List ℕ) (at : ℕ) (r : List ℕ) : Type 0 where
+  pub rest : r ≡ drop at s
 
--- a step of the parts is a step of what the case lends
-pub as_lent : (s : List ℕ) (c : Case) {vectors scalars ram predicates flash flash_rights ram_rights : List ℕ}
-    → vectors ≡ part_at s (vectors_at c) c.vectors → scalars ≡ scalars_in s c → ram ≡ part_at s (ram_at c) c.ram
-    → predicates ≡ part_at s (predicates_at c) c.predicates
-    → flash ≡ part_at s (flash_at c) c.flash → flash_rights ≡ part_at s (flash_rights_at c) c.flash_rights
-    → ram_rights ≡ part_at s (ram_rights_at c) c.ram_rights
-    → (r : StepResult) {z x : List ℕ}
-    → (let l = lent_of c.settings predicates c.map flash flash_rights ram_rights in
-    StepPromise l c.word (bench_of vectors scalars ram) r l (bench_of z x ram))
-    → (let l = lent_in s c in StepPromise l c.word (bench_in s c) r l (bench_of z x (part_at s (ram_at c) c.ram)))
-unfolding lent_in bench_in
-as_lent s c e₁ e₂ e₃ e₄ e₅ e₆ e₇ r h = rw (e₁, e₂, e₃, e₄, e₅, e₆, e₇) at h
+-- its first n bytes are a part, and the rest begins behind them
+pub start : {s r : List ℕ} (at : ℕ) → r ≡ drop at s → From s at r
+start at h = record { rest = h }
 
--- the areas that are asked are those that the case lends
-pub as_areas : (s : List ℕ) (c : Case) {flash flash_rights ram ram_rights : List ℕ}
-    → flash ≡ part_at s (flash_at c) c.flash → flash_rights ≡ part_at s (flash_rights_at c) c.flash_rights
-    → ram ≡ part_at s (ram_at c) c.ram → ram_rights ≡ part_at s (ram_rights_at c) c.ram_rights
-    → areas_of c.map flash flash_rights ram ram_rights ≡ areas_in s c
-unfolding areas_in
-as_areas s c e₁ e₂ e₃ e₄ = rw (e₁, e₂, e₃, e₄)
+pub front : {s r p : List ℕ} {at : ℕ} → From s at r → (n : ℕ) → p ≡ take n r → p ≡ part_at s at n
+front f n h = h ∙ ap (take n) f.rest
+
+pub back : {s r p : List ℕ} {at : ℕ} → From s at r → (n : ℕ) → p ≡ drop n r → From s (at + n) p
+back {s} {r} {p} {at} f n h = record { rest = h ∙ ap (drop n) f.rest ∙ drop-drop n at s }
+
+-- the numbers of a part are those that lie there
+numbers_cut : (s : List ℕ) (at n : ℕ) → at + 8 * n ≤ length s
+    → listed (λ i. bytes_at (part_at s at (8 * n)) (8 * i) 8) 0 n ≡ listed (λ i. bytes_at s (at + 8 * i) 8) 0 n
+numbers_cut s at n fits =
+    let part : List ℕ = part_at s at (8 * n) in
+    listed_cong (λ i. bytes_at part (8 * i) 8) (λ i. bytes_at s (at + 8 * i) 8) 0 n
+    (λ i _ l. little_cong (λ j. get_or part (8 * i + j) 0) (λ j. get_or s (at + 8 * i + j) 0) 0 0 8
+    (λ j m. byte_in s at (8 * n) (8 * i + (0 + j)) (omega arith) ∙ ap (λ (k : ℕ). get_or s k 0) {y = at + 8 * i + (0 + j)} (omega arith)))
+
+-- the parts that the step may change are the bench of the case
+pub bench_cut : (s : List ℕ) (c : Case) {vectors scalars ram : List ℕ} → case_bytes c ≤ length s
+    → vectors ≡ part_at s (vectors_at c) c.vectors → scalars ≡ part_at s (scalars_at c) (8 * c.scalars) → ram ≡ part_at s (ram_at c) c.ram
+    → ◌≡◌ {A = Bench} (record { vectors = vectors; scalars = listed (λ i. bytes_at scalars (8 * i) 8) 0 (length scalars / 8); ram = ram }) (bench_in s c)
+unfolding bench_in
+bench_cut s c {vectors} {scalars} {ram} fits v x r =
+    let long : length (part_at s (scalars_at c) (8 * c.scalars)) / 8 ≡ c.scalars = simp (length-take, length-drop) (omega arith) in
+    let numbers : listed (λ i. bytes_at scalars (8 * i) 8) 0 (length scalars / 8) ≡ scalars_in s c = rw (x, long) (numbers_cut s (scalars_at c) c.scalars (omega arith)) in
+    cc
+
+-- so the areas are those of the case, and the vector file
+module _ (s : List ℕ) (c : Case) (p : Parts) (bench : bench_by p ≡ bench_in s c) where
+  pub vectors_lent : p.vectors.now ≡ vectors_in s c
+  unfolding bench_in
+  vectors_lent = ap (λ (b : Bench). b.vectors) bench
+
+  pub areas_lent : lent_of p.lent ≡ lent_in s c → areas_by p ≡ areas_in s c
+  unfolding areas_in lent_in bench_in
+  areas_lent lent = λ i. S.areas_in (lent i) (bench i)

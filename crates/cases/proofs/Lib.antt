@@ -9,3 +9,4 @@ pub mod Unpacks
 pub mod Repacks
 pub mod Lengths
 pub mod Packs
+pub mod Shown

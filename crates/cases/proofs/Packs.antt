@@ -11,7 +11,7 @@ use Rattle.std.specs.Prelude.{if◌then◌else◌, Ok, Err}
 use Rattle.ground.specs.Lists.{EachBelow}
 use Rattle.ground.proofs.Laws.{if_cases}
 use Rattle.steps.specs.Step.{step_of}
-use Rattle.cases.specs.Parts.{kind_in, lent_in, bench_in, areas_in, case_bytes}
+use Rattle.cases.specs.Parts.{lent_in, bench_in, areas_in, case_bytes}
 use Rattle.cases.specs.Heads.{head_of}
 use Rattle.cases.specs.Outcomes.{outcome_length}
 use Rattle.cases.specs.Windows.{address_told, lane_told}

@@ -23,7 +23,7 @@ answer_to s c Step = outcome_bytes (step_of (lent_in s c) c.word (bench_in s c))
 answer_to s c (Address n) = window_bytes (address_told (areas_in s c) n)
 answer_to s c (Lane n) = window_bytes (lane_told c.settings.vl (vectors_in s c) n)
 
-unfoldable pub answer_in : List ℕ → Case → List ℕ
+abbrev pub answer_in : List ℕ → Case → List ℕ
 answer_in s c = answer_to s c c.question
 
 -- .. over the first bytes of what is lent for it

@@ -1,5 +1,5 @@
 -- docs/CASES.md, "A case": the head, field by field, and "Bad input". All numbers are little-endian.
-use Rattle.std.specs.Prelude.{if◌then◌else◌, ℕ, ◌+◌, ◌*◌, ◌/◌, ◌%◌, ◌^◌, ◌≡◌, Bool, not, ◌||◌, List, [], ◌∷◌, eqb, ltb, length, Result, Ok, Err}
+use Rattle.std.specs.Prelude.{ℕ, ◌+◌, ◌*◌, ◌/◌, ◌%◌, ◌^◌, ◌≡◌, Bool, not, ◌||◌, List, [], ◌∷◌, eqb, ltb, length, Result, Ok, Err}
 use Rattle.ground.specs.Choices.{◌⇒◌, first_of}
 use Rattle.ground.specs.Lists.{bytes_at}
 use Rattle.cases.specs.Parts.{carried, head_bytes, case_bytes}

@@ -26,5 +26,5 @@ unfoldable pub window_bytes : Report → List ℕ
 window_bytes r = report_bytes r ++ eights (0 ∷ [])
 
 -- how many these are
-unfoldable pub outcome_length : Case → ℕ
+abbrev pub outcome_length : Case → ℕ
 outcome_length c = if eqb (kind_in c.question) 0 then 25 + c.vectors + 8 * c.scalars else 33

@@ -1,10 +1,10 @@
 -- docs/CASES.md from the writing side: what a case is packed from, its bytes, and the outcome that it is due. Nothing here says how a case is
 -- read; proofs/Packs.antt holds the two sides to each other.
-use Rattle.std.specs.Prelude.{if◌then◌else◌, ℕ, ◌+◌, ◌*◌, ◌/◌, ◌%◌, ◌^◌, ◌≤◌, ◌<◌, ◌≡◌, ◌⊎◌, Bool, eqb, length, drop, Ok}
+use Rattle.std.specs.Prelude.{if◌then◌else◌, ℕ, ◌+◌, ◌*◌, ◌/◌, ◌%◌, ◌^◌, ◌≤◌, ◌<◌, ◌≡◌, ◌⊎◌, Bool, eqb, length, drop, Option, None, Ok}
 use mathlib.Core.List.{List, [], ◌∷◌, ◌++◌, map, flatten}
 use Rattle.ground.specs.Choices.{◌⇒◌, first_of}
 use Rattle.ground.specs.Lists.{listed, EachBelow}
-use Rattle.memory.specs.Areas.{Areas, areas_of}
+use Rattle.memory.specs.Areas.{Areas, areas_from}
 use Rattle.memory.specs.Windows.{shown_place}
 use Rattle.memory.specs.declared.Map.{Map}
 use Rattle.steps.specs.Benches.{Lent, Bench}
@@ -12,7 +12,6 @@ use Rattle.steps.specs.Step.{step_of}
 use Rattle.lanes.specs.Lanes.{shown_of}
 use Rattle.lanes.specs.declared.Kind.TheVariants.{Whole, Single, Double}
 use Rattle.lanes.specs.declared.Shown.{Shown}
-use Rattle.lanes.specs.declared.Shown.TheVariants.{NoLane}
 use Rattle.cases.specs.Outcomes.{outcome_bytes, window_bytes}
 use Rattle.cases.specs.Windows.{place_report, shown_report}
 use Rattle.cases.specs.Answers.{After}
@@ -141,17 +140,17 @@ module _ (q : Asked) where
   bench_for = record { vectors = q.z; scalars = q.x; ram = q.ram }
 
   abbrev pub areas_for : Areas
-  areas_for = areas_of map_for q.flash q.flash_rights q.ram q.ram_rights
+  areas_for = areas_from map_for q.flash q.flash_rights q.ram q.ram_rights
 
   -- "a0 register, a1 0 whole, 1 single, 2 double, a2 width in bits, a3 lane"
-  abbrev pub lane_for : Shown
+  abbrev pub lane_for : Option Shown
   lane_for =
       first_of
       ((eqb q.a1 0 ⇒ shown_of q.vl q.z q.a0 Whole q.a2 q.a3)
       ∷ (eqb q.a1 1 ⇒ shown_of q.vl q.z q.a0 Single q.a2 q.a3)
       ∷ (eqb q.a1 2 ⇒ shown_of q.vl q.z q.a0 Double q.a2 q.a3)
       ∷ [])
-      NoLane
+      None
 
   -- the outcome that the case is due: of one step, of the address window, of the lane window
   unfoldable pub outcome_for : List ℕ

@@ -1,9 +1,8 @@
 -- docs/CASES.md, "A case": what lies behind the head, part by part, and the bench that it lends.
 use Rattle.std.specs.Prelude.{if◌then◌else◌, ℕ, ◌+◌, ◌*◌, List, eqb, take, drop}
 use Rattle.ground.specs.Lists.{listed, bytes_at}
-use Rattle.memory.specs.Areas.{Areas, areas_of}
+use Rattle.memory.specs.Areas.{Areas, areas_from}
 use Rattle.steps.specs.Benches.{Lent, Bench}
-use Rattle.bench.specs.Lends.{lent_of, bench_of}
 use Rattle.cases.specs.declared.heads.Numbers.{Numbers}
 use Rattle.cases.specs.declared.heads.Question.{Question}
 use Rattle.cases.specs.declared.heads.Question.TheVariants.{Step, Address, Lane}
@@ -68,17 +67,23 @@ module _ (s : List ℕ) (c : Case) where
 
   unfoldable pub lent_in : Lent
   lent_in =
-      lent_of c.settings (part_at s (predicates_at c) c.predicates) c.map (part_at s (flash_at c) c.flash)
-      (part_at s (flash_rights_at c) c.flash_rights) (part_at s (ram_rights_at c) c.ram_rights)
+      record {
+        settings = c.settings;
+        predicates = part_at s (predicates_at c) c.predicates;
+        map = c.map;
+        flash = part_at s (flash_at c) c.flash;
+        flash_rights = part_at s (flash_rights_at c) c.flash_rights;
+        ram_rights = part_at s (ram_rights_at c) c.ram_rights;
+      }
 
   abbrev pub scalars_in : List ℕ
   scalars_in = listed (λ i. bytes_at s (scalars_at c + 8 * i) 8) 0 c.scalars
 
   unfoldable pub bench_in : Bench
-  bench_in = bench_of vectors_in scalars_in (part_at s (ram_at c) c.ram)
+  bench_in = record { vectors = vectors_in; scalars = scalars_in; ram = part_at s (ram_at c) c.ram }
 
   -- the two areas, which the address window asks for
   unfoldable pub areas_in : Areas
   areas_in =
-      areas_of c.map (part_at s (flash_at c) c.flash) (part_at s (flash_rights_at c) c.flash_rights)
+      areas_from c.map (part_at s (flash_at c) c.flash) (part_at s (flash_rights_at c) c.flash_rights)
       (part_at s (ram_at c) c.ram) (part_at s (ram_rights_at c) c.ram_rights)

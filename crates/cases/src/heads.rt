@@ -8,6 +8,9 @@ use ground::number;
 use memory::{Address, Map};
 use steps::Settings;
 
+// KKJ1, lowest byte first.
+const MAGIC: u64 = 0x314A_4B4B;
+
 // What a window is asked: the numbers a0 to a3 that a case carries behind its lengths, and how long the blob behind its parts is.
 #[derive(Clone, Copy)]
 pub struct Numbers {
@@ -115,7 +118,7 @@ impl Case {
 fn strange_flag(flags: u64) -> bool
     ensures { result ≡ strange_flag flags }
 {
-    (7 < flags % 256) | (65535 < flags)
+    7 < flags % 256 || 65535 < flags
 }
 
 // The numbers behind the lengths.
@@ -133,7 +136,7 @@ fn read_numbers(s: &[u8]) -> Numbers
 }
 
 // What is asked, if its kind means something here. A step has no numbers: what lies behind its lengths are its parts.
-#[tactic(auto, unfolding(crate::specs::Inside::asked_of, crate::specs::Heads::strange_kind, crate::specs::Heads::question_of))]
+#[tactic(auto, unfolding(crate::specs::Heads::strange_kind, crate::specs::Heads::question_of))]
 fn read_question(s: &[u8]) -> Result<Question, Refusal>
     ensures { result ≡ asked_of s.now }
 {
@@ -146,7 +149,7 @@ fn read_question(s: &[u8]) -> Result<Question, Refusal>
 }
 
 // What a head says, field by field.
-#[tactic(auto, unfolding(crate::specs::Heads::head_of))]
+#[tactic(auto, using(crate::proofs::Flags::flags_masked), unfolding(crate::specs::Heads::head_of))]
 fn read_head(s: &[u8], question: Question) -> Case
     requires { question ≡ question_of s.now }
     ensures { result ≡ head_of s.now }
@@ -156,9 +159,9 @@ fn read_head(s: &[u8], question: Question) -> Case
         word: number(s, 4, 4) as u32,
         settings: Settings {
             vl: number(s, 16, 8),
-            simd: flags / 1 % 2 == 1,
-            sve: flags / 2 % 2 == 1,
-            f64mm: flags / 4 % 2 == 1,
+            simd: flags & 1 != 0,
+            sve: flags & 2 != 0,
+            f64mm: flags & 4 != 0,
         },
         map: Map {
             flash: Address(number(s, 24, 8)),
@@ -202,7 +205,7 @@ fn within_limits(case: Case) -> Result<Opened, Refusal>
 }
 
 // What 96 bytes or more open with that begin with the magic.
-#[tactic(auto, using(crate::proofs::Opens::read_asked), unfolding(crate::specs::Heads::marked_of, crate::specs::Inside::asked_of))]
+#[tactic(auto, using(crate::proofs::Opens::read_asked), unfolding(crate::specs::Heads::marked_of))]
 fn marked(s: &[u8]) -> Result<Opened, Refusal>
     ensures { result ≡ marked_of s.now }
 {
@@ -227,7 +230,7 @@ pub fn head(s: &[u8]) -> Result<Opened, Refusal>
     if s.len() < 4 {
         return Err(Refusal::Ends);
     }
-    if number(s, 0, 4) != 0x314A_4B4B {
+    if number(s, 0, 4) != MAGIC {
         return Err(Refusal::Magic);
     }
     if s.len() < 96 {

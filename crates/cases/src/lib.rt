@@ -13,6 +13,9 @@ ghost use Rattle.cases.specs.Inside.{Bounds};
 ghost use Rattle.cases.specs.Answers.{outcome_in, AnswerPromise};
 
 pub use heads::{Case, Numbers, Opened, Part, Question, Refusal, head};
+use outcomes::put_window;
+use parts::{Parts, asked_step};
+use windows::{asked_address, asked_lane};
 
 // How a case was answered: so many bytes taken, and so many of its outcome written.
 #[derive(Clone, Copy)]
@@ -22,7 +25,6 @@ pub struct Answered {
 }
 
 // How many bytes the outcome of a case has.
-#[tactic(auto, unfolding(crate::specs::Outcomes::outcome_length))]
 fn outcome_bytes(case: Case) -> usize
     requires { Bounds case }
     ensures { result ≡ outcome_length case }
@@ -33,16 +35,17 @@ fn outcome_bytes(case: Case) -> usize
     }
 }
 
-#[tactic(auto, unfolding(crate::specs::Outcomes::outcome_length, crate::specs::Answers::outcome_in, crate::specs::Answers::answer_in, crate::specs::Inside::step_in))]
 // Answers a case of which every byte is there: its outcome over the first bytes of what is lent for it.
+#[tactic(auto, using(crate::proofs::Lends::vectors_lent, crate::proofs::Lends::areas_lent), unfolding(crate::specs::Answers::outcome_in))]
 fn put_answer(out: &mut [u8], s: &[u8], case: Case)
     requires { Bounds case × (outcome_length case ≤ length out.old) × (case_bytes case ≤ length s.now) }
     ensures { out.new ≡ outcome_in s.now case out.old }
 {
+    let parts = Parts::of(case, s);
     match case.question {
-        Question::Step => parts::asked_step(out, s, case),
-        Question::Address(n) => outcomes::put_window(out, windows::asked_address(s, case, n)),
-        Question::Lane(n) => outcomes::put_window(out, windows::asked_lane(s, case, n)),
+        Question::Step => asked_step(out, case.word, parts),
+        Question::Address(n) => put_window(out, asked_address(parts, n)),
+        Question::Lane(n) => put_window(out, asked_lane(case.settings.vl, parts.vectors, n)),
     }
 }
 

@@ -7,7 +7,7 @@ ghost use Rattle.cases.specs.Inside.{report_in};
 use steps::StepResult;
 
 // What is told first: the answer's number, and count, element and address.
-#[derive(Clone, Copy)]
+#[derive(Clone, Copy, Default)]
 pub struct Told {
     pub number: u8,
     pub count: u64,
@@ -16,15 +16,17 @@ pub struct Told {
 }
 
 // What a step tells.
-pub(crate) fn step_told(res: StepResult) -> Told
-    ensures { report_in result ≡ report_of res }
-{
-    let answer = res.answer;
-    Told {
-        number: answer.number() as u8,
-        count: res.count,
-        element: answer.element(),
-        address: answer.address().0,
+impl From<StepResult> for Told {
+    ghost from_gives = { λ res told. report_in told ≡ report_of res };
+
+    fn from(res: StepResult) -> Told {
+        let answer = res.answer;
+        Told {
+            number: answer.number() as u8,
+            count: res.count,
+            element: answer.element(),
+            address: answer.address().0,
+        }
     }
 }
 
@@ -33,13 +35,8 @@ pub(crate) fn put_numbers(dst: &mut [u8], x: &[u64])
     requires { length dst.old ≡ length x.now * 8 }
     ensures { dst.new ≡ eights x.now }
 {
-    let n = x.len();
-    let mut i = 0;
-    while i < n {
-        let at = i * 8;
-        let end = at + 8;
-        ground::put(&mut dst[at..end], x[i]);
-        i += 1;
+    for (i, v) in x.iter().enumerate() {
+        ground::put(&mut dst[i * 8..i * 8 + 8], *v);
     }
 }
 
@@ -48,8 +45,7 @@ pub(crate) fn put_report(dst: &mut [u8], told: Told)
     requires { 25 ≤ length dst.old }
     ensures { dst.new ≡ report_bytes (report_in told) ++ drop 25 dst.old }
 {
-    let numbers = [told.count, told.element, told.address];
-    put_numbers(&mut dst[1..25], &numbers);
+    put_numbers(&mut dst[1..25], &[told.count, told.element, told.address]);
     dst[0] = told.number;
 }
 
@@ -58,7 +54,6 @@ pub(crate) fn put_window(out: &mut [u8], told: Told)
     requires { 33 ≤ length out.old }
     ensures { out.new ≡ window_bytes (report_in told) ++ drop 33 out.old }
 {
-    let none = [0u64];
-    put_numbers(&mut out[25..33], &none);
+    out[25..33].fill(0);
     put_report(out, told);
 }

@@ -3,13 +3,13 @@ use Rattle.std.proofs.Common.{◌≡◌, ℕ, ◌+◌, ◌-◌, ◌*◌, ◌≤�
 use Rattle.ground.specs.Lists.{replaced}
 use Rattle.ground.proofs.Fills.{part_length, back_in, replaced_next}
 use Rattle.steps.specs.Answers.{report_of}
+use Rattle.steps.specs.Benches.{lent_of}
 use Rattle.steps.specs.Step.{StepPromise}
 use Rattle.steps.specs.declared.StepResult.{StepResult}
 use Rattle.bench.specs.Lends.{bench_of}
-use Rattle.cases.specs.Parts.{part_at, ram_at, lent_in, bench_in}
 use Rattle.cases.specs.Outcomes.{eights, report_bytes, outcome_bytes}
-use Rattle.cases.specs.Inside.{step_length, step_in}
-use Rattle.cases.specs.declared.heads.Case.{Case}
+use Rattle.cases.specs.Inside.{bench_by, step_length, step_by}
+use Rattle.cases.specs.declared.parts.Parts.{Parts}
 use Rattle.cases.proofs.parts.put_outcome.Goals as goal
 
 -- two parts put in one behind the other, from place 25 on
@@ -30,25 +30,25 @@ layers : (out z xs ys : List ℕ) (n m : ℕ) → xs ≡ ys
 layers out z xs ys n m e = back_in _ xs ys (25 + n) m e ∙ ap (λ (l : List ℕ). replaced l (25 + n) m ys) (back_in out z z 25 n refl)
 
 -- the outcome: the report, and behind it what the step left
-as_outcome : (s : List ℕ) (c : Case) (out : List ℕ) (r : StepResult) {z x : List ℕ}
-    → (let l = lent_in s c in StepPromise l c.word (bench_in s c) r l (bench_of z x (part_at s (ram_at c) c.ram)))
-    → report_bytes (report_of r) ++ ((z ++ eights x) ++ drop (step_length c) out) ≡ step_in s c out
-unfolding step_in outcome_bytes
-as_outcome s c out r {z} {x} h = rw (← h.ends) (sym (append_assoc (report_bytes (report_of r)) (z ++ eights x) (drop (step_length c) out)))
+as_outcome : (w : ℕ) (p : Parts) (out : List ℕ) (r : StepResult) {z x : List ℕ}
+    → (let l = lent_of p.lent in StepPromise l w (bench_by p) r l (bench_of z x p.ram.now))
+    → report_bytes (report_of r) ++ ((z ++ eights x) ++ drop (step_length p) out) ≡ step_by w p out
+unfolding step_by outcome_bytes
+as_outcome w p out r {z} {x} h = rw (← h.ends) (sym (append_assoc (report_bytes (report_of r)) (z ++ eights x) (drop (step_length p) out)))
 
 pub returns : goal.returns
 returns c =
     let step = c.stepped-result in
     let out = c.args.out.now in
-    let n = c.args.case.vectors in
+    let n = length c.args.parts.vectors.now in
     let m = 8 * length c.args.x.now in
     let z = step.new.z in
     let x = step.new.x in
     let room : 25 + n + m ≤ length out = omega (arith, c.requires.0, c.requires.1) in
     let size : length z ≡ n = step.auto.z ∙ part_length out 25 n (omega arith) in
-    let far : 25 + n + m ≡ step_length c.args.case = ap (λ (k : ℕ). 25 + n + 8 * k) c.requires.0 in
-    rw c.step_told.ensures at c.put_report.ensures
+    let far : 25 + n + m ≡ step_length c.args.parts = ap (λ (k : ℕ). 25 + n + k) c.requires.0 in
+    rw c.from.ensures at c.put_report.ensures
     ∙ ap (λ (l : List ℕ). report_bytes (report_of step.result) ++ drop 25 l) (layers out z _ (eights x) n m c.put_numbers.ensures)
     ∙ ap (λ (l : List ℕ). report_bytes (report_of step.result) ++ l)
     (behind out n m z (eights x) size room ∙ ap (λ (k : ℕ). (z ++ eights x) ++ drop k out) far)
-    ∙ as_outcome c.args.s.now c.args.case out step.result step.ensures
+    ∙ as_outcome c.args.word c.args.parts out step.result step.ensures

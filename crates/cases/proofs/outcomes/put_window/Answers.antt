@@ -1,17 +1,10 @@
 -- `put_window` meets its contract: the length of what is behind it, and the report before that.
-use mathlib.Core.Path.{◌≡◌, sym, ap, ◌∙◌}
-use mathlib.Core.List.{List, [], ◌∷◌, ◌++◌, append_assoc}
-use Prim.Native.Nat.{ℕ, ◌≤◌}
-use native.Mathlib.Omega.{arith}
-use borrow.Author.Rules.{rules}
-use lib.ListN.{length, take, drop, length-take}
-use lib.Seq.{drop_at}
+use Rattle.std.proofs.Common.{◌≡◌, ℕ, ◌≤◌, List, [], ◌∷◌, ◌++◌, length, take, drop, replicate, sym, ap, ◌∙◌, append_assoc, arith, length-take, length-drop, drop_at}
 use Rattle.ground.specs.Lists.{replaced}
 use Rattle.ground.proofs.Fills.{back_in}
 use Rattle.steps.specs.Answers.{Report}
 use Rattle.cases.specs.Outcomes.{eights, report_bytes, window_bytes}
-use Rattle.cases.proofs.outcomes.put_window.Statement.{statement}
-use Rattle.cases.proofs.outcomes.put_window.Tie as tie
+use Rattle.cases.proofs.outcomes.put_window.Goals as goal
 
 -- eight bytes put in from place 25 on, seen from there
 behind : (out ys : List ℕ) → 33 ≤ length out → drop 25 (replaced out 25 8 ys) ≡ ys ++ drop 33 out
@@ -26,11 +19,9 @@ as_window r out {ys} e h =
     ∙ ap (λ (l : List ℕ). report_bytes r ++ l) (behind out (eights (0 ∷ [])) h)
     ∙ sym (append_assoc (report_bytes r) (eights (0 ∷ [])) (drop 33 out))
 
-pub put_window_spec : {M : Type 1} → statement M
-put_window_spec =
-    tie.close (tie.spec (λ c. search rules) (λ c. search rules) (λ c. search rules) (λ c. search rules) (λ c κs. search rules) (λ c κs. search rules)
-    (λ c. search rules)
-    (λ c.
-    let t = c.before.before.before.before.before.before in
-    let g = t.before.before.before.before in
-    c.put_report.ensures ∙ as_window _ g.args.out.now t.put_numbers.ensures g.requires))
+pub returns : goal.returns
+unfolding eights
+returns c =
+    let out = c.args.out.now in
+    let eight : length (take 8 (drop 25 out)) ≡ 8 = simp (length-take, length-drop) (omega arith) in
+    c.put_report.ensures ∙ as_window _ out (c.fill.ensures.after (λ y h. h) ∙ ap (λ (n : ℕ). replicate n 0) eight) c.requires
