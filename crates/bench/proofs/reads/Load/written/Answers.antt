@@ -1,5 +1,5 @@
 -- Where nothing was read, the definition's register is zeros.
-use Rattle.std.proofs.Common.{arith}
+use Rattle.std.proofs.Common.{◌≡◌, arith}
 use Rattle.bench.proofs.Files.{destinations_few}
 use Rattle.bench.proofs.Nothing.{nothing_read}
 use Rattle.bench.proofs.reads.Load.written.Goals as goal
@@ -12,4 +12,5 @@ fill-requires c =
 
 pub returns-then-count-eq0 : goal.returns-then-count-eq0
 returns-then-count-eq0 c =
-    nothing_read _ _ _ c.args.self.lanes.fits.sound.some (rw c.if-count-eq0.true at c.requires.ran_with) _ c.requires.j_bound.0 c.zeros.ensures
+    let none : c.args.count ≡ 0 = omega arith in
+    nothing_read _ _ _ c.args.self.lanes.fits.sound.some (rw none at c.requires.ran_with) _ c.requires.j_bound.0 c.zeros.ensures
