@@ -58,16 +58,16 @@ module _ (l : Lent) (b : Bench) (p : Plan) (pred : List ℕ) (e : pred ≡ gover
     pub faulted : (r.answer ≡ Ran → ⊥) → EndsAs (stacked p) l b r (bench_of z b.scalars b.ram)
     unfolding EndsAs stacked outcome_of
     faulted ne =
-        let zero = not_ran r.answer ne in
-        let kept : z ≡ b.vectors = rw (ne_eqb _ 0 zero) at t.vectors in
-        rw (kept, rw e at h) (rw (← (rw (e, lent) at t.report), ne_eqb _ 0 zero))
+        let other = not_ran r.answer ne in
+        let kept : z ≡ b.vectors = rw (ne_eqb _ 0 other) at t.vectors in
+        rw (kept, rw e at h) (rw (← (rw (e, lent) at t.report), ne_eqb _ 0 other))
 
     pub ran : r.answer ≡ Ran → (x : List ℕ) → x ≡ scalars_after p b.scalars → EndsAs (stacked p) l b r (bench_of z x b.ram)
     unfolding EndsAs stacked outcome_of bench_after
     ran q x written =
-        let zero : eqb (number_of r.answer) 0 ≡ true = rw q refl in
-        let filled = rw zero at t.vectors in
-        rw (rw e at h) (rw (← (rw (e, lent) at t.report), zero, filled, written, e, lent))
+        let none : eqb (number_of r.answer) 0 ≡ true = rw q refl in
+        let filled = rw none at t.vectors in
+        rw (rw e at h) (rw (← (rw (e, lent) at t.report), none, filled, written, e, lent))
 
 either : (t : Bool) (b : Bench) → b ≡ (if t then b else b)
 either true b = refl
