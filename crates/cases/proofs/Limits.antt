@@ -156,7 +156,6 @@ Longest (Err why) = Unit {0}
 Longest (Ok o) = (o.whole ≤ 398600) × (outcome_length o.case ≤ 66585)
 
 outcome_most : (c : Case) → Bounds c → outcome_length c ≤ 66585
-unfolding outcome_length
 outcome_most c b =
     if_cases (λ (n : ℕ). n ≤ 66585) (eqb (kind_in c.question) 0) (25 + c.vectors + 8 * c.scalars) 33
     (λ _. omega (arith, b.vectors, b.scalars)) (λ _. lit≤ tt)

@@ -40,7 +40,6 @@ pub record Read (s : List ℕ) (q : Question) : Type 0 where
   pub kind : kind_in q ≡ kind_of (flags_in s)
 
 pub read_asked : (s : List ℕ) (q : Question) → Ok q ≡ asked_of s → Read s q
-unfolding asked_of
 read_asked s q =
     if_cases (λ (r : Result Question Refusal). Ok q ≡ r → Read s q) (strange_kind (kind_of (flags_in s))) _ _ (λ _ e. absurd (cc))
     (λ h e. let same : q ≡ question_of s = cc in record { here = h; same = same; kind = ap kind_in same ∙ kind_asked s h })

@@ -14,7 +14,6 @@ use Rattle.steps.specs.Step.{step_of}
 use Rattle.cases.specs.Parts.{lent_in, bench_in, areas_in, case_bytes}
 use Rattle.cases.specs.Heads.{head_of}
 use Rattle.cases.specs.Outcomes.{outcome_length}
-use Rattle.cases.specs.Windows.{address_told, lane_told}
 use Rattle.cases.specs.Answers.{After, answer_to, answer_in, outcome_in, after_case}
 use Rattle.cases.specs.Packs.{Asked, packed, Packable, OpensWith, lent_for, bench_for, outcome_for, answer_for}
 use Rattle.cases.specs.declared.heads.Case.{Case}
@@ -32,7 +31,7 @@ use Rattle.cases.proofs.Lengths.{step_long, outcome_long, window_long}
 
 -- what is read of bytes is answered with the outcome that is due to it
 answer_due : (s : List ℕ) (c : Case) → answer_in s c ≡ outcome_for (asked_from s c)
-unfolding answer_in outcome_for lent_in bench_in areas_in address_told lane_told
+unfolding outcome_for lent_in bench_in areas_in
 answer_due s c = go c.question refl
   where
     go : (u : Question) → c.question ≡ u → answer_to s c c.question ≡ outcome_for (asked_from s c)
@@ -42,7 +41,7 @@ answer_due s c = go c.question refl
 
 module _ (q : Asked) (can : Packable q) where
   outcome_for_long : outcome_length (case_for q) ≡ length (outcome_for q)
-  unfolding outcome_length outcome_for
+  unfolding outcome_for
   outcome_for_long = rw (kind_for q can) (go (eqb q.kind 0) refl)
     where
       go : (t : Bool) → eqb q.kind 0 ≡ t → (if eqb q.kind 0 then 25 + length q.z + 8 * length q.x else 33) ≡ length (outcome_for q)

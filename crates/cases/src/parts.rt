@@ -1,15 +1,17 @@
 // The parts of a case, and one step of what they lend.
 ghost use Rattle.std.specs.Prelude.{◌≡◌, ◌+◌, ◌*◌, ◌%◌, ◌≤◌, length};
 ghost use Rattle.ground.specs.Lists.{listed, bytes_at};
+ghost use Rattle.memory.specs.Areas.{areas_of};
 ghost use Rattle.steps.specs.Benches.{lent_of};
 ghost use Rattle.steps.specs.Step.{StepPromise};
 ghost use Rattle.bench.specs.Lends.{bench_of};
 ghost use Rattle.cases.specs.Parts.{case_bytes, lent_in, bench_in};
-ghost use Rattle.cases.specs.Inside.{bench_by, step_length, step_by};
+ghost use Rattle.cases.specs.Inside.{bench_by, areas_by, step_length, step_by};
 
 use crate::heads::Case;
 use crate::outcomes::{Told, put_numbers, put_report};
 use ground::number;
+use memory::{Area, Areas};
 use steps::{Lent, StepResult};
 
 // What a case lends, cut out of its bytes. The scalars are numbers of 8 bytes.
@@ -50,6 +52,31 @@ impl<'a> Parts<'a> {
             scalars,
             ram,
             lent,
+        }
+    }
+
+    // The two areas.
+    pub(crate) fn areas(self) -> Areas<'a>
+        ensures { areas_of result ≡ areas_by self.entry }
+    {
+        let Lent {
+            map,
+            flash,
+            flash_rights,
+            ram_rights,
+            ..
+        } = self.lent;
+        Areas {
+            flash: Area {
+                start: map.flash,
+                bytes: flash,
+                rights: flash_rights,
+            },
+            ram: Area {
+                start: map.ram,
+                bytes: self.ram,
+                rights: ram_rights,
+            },
         }
     }
 }

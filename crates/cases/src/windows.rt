@@ -1,6 +1,5 @@
 // The windows for the operator, asked by a case: where an address lies, and what a lane holds.
-ghost use Rattle.std.specs.Prelude.{◌≡◌, length};
-ghost use Rattle.memory.specs.Areas.{areas_from};
+ghost use Rattle.std.specs.Prelude.{◌≡◌};
 ghost use Rattle.lanes.specs.Said.{NoNan};
 ghost use Rattle.cases.specs.Windows.{address_told, asked_of, lane_told};
 ghost use Rattle.cases.specs.Inside.{kind_asked, report_in, areas_by};
@@ -9,35 +8,24 @@ use crate::heads::Numbers;
 use crate::outcomes::Told;
 use crate::parts::Parts;
 use lanes::{Kind, Shown};
-use memory::{Address, Area, Areas, Place};
-use steps::Lent;
+use memory::{Address, Areas, Place};
 
 // Kind 2: where an address lies in the areas that a case lends. How long the part is, the window itself says.
 #[tactic(auto, using(crate::proofs::Shown::rest))]
 pub(crate) fn asked_address(parts: Parts, n: Numbers) -> Told
     ensures { report_in result ≡ address_told (areas_by parts.entry) n }
 {
-    let Lent {
-        map,
-        flash,
-        flash_rights,
-        ram_rights,
-        ..
-    } = parts.lent;
-    let areas = Areas {
-        flash: Area {
-            start: map.flash,
-            bytes: flash,
-            rights: flash_rights,
-        },
-        ram: Area {
-            start: map.ram,
-            bytes: parts.ram,
-            rights: ram_rights,
-        },
-    };
     let a = Address(n.a0);
-    let part = memory::window_beside(map, flash, flash_rights, parts.ram, ram_rights, a);
+    let areas = parts.areas();
+    let Areas { flash, ram } = areas;
+    let part = memory::window_beside(
+        parts.lent.map,
+        flash.bytes,
+        flash.rights,
+        ram.bytes,
+        ram.rights,
+        a,
+    );
     let element = part.len() as u64;
     match areas.shown_place(a) {
         Some(Place::Flash(k)) => Told {

@@ -33,7 +33,7 @@ layers out z xs ys n m e = back_in _ xs ys (25 + n) m e ∙ ap (λ (l : List ℕ
 as_outcome : (w : ℕ) (p : Parts) (out : List ℕ) (r : StepResult) {z x : List ℕ}
     → (let l = lent_of p.lent in StepPromise l w (bench_by p) r l (bench_of z x p.ram.now))
     → report_bytes (report_of r) ++ ((z ++ eights x) ++ drop (step_length p) out) ≡ step_by w p out
-unfolding step_by outcome_bytes
+unfolding outcome_bytes
 as_outcome w p out r {z} {x} h = rw (← h.ends) (sym (append_assoc (report_bytes (report_of r)) (z ++ eights x) (drop (step_length p) out)))
 
 pub returns : goal.returns
