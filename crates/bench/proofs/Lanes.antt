@@ -12,7 +12,7 @@ use Rattle.memory.specs.Addresses.{wrap}
 use Rattle.steps.specs.Outcomes.{extended}
 use Rattle.bench.specs.Inside.{Zeroed}
 use Rattle.ground.specs.Sizes.{bytes_of}
-use Rattle.bench.specs.declared.chunks.Lanes.{Lanes}
+use Rattle.bench.specs.declared.chunks.Widening.{Widening}
 use Rattle.bench.specs.Inside.Quick.{lane_from, byte_from, ElementsIn, ChunksIn, LanesOut}
 use Rattle.bench.proofs.Small.{slot}
 use Rattle.bench.proofs.Many.{many_split, many_cong, many_none}
@@ -115,7 +115,7 @@ chunks_filled {f} {n} {chunks} {width} per even s =
     record { size = s.size; so_far = λ i h. s.so_far i (rw (← e) h) }
 
 -- chunk c, of as many as there are, needs of the stretch what the whole needs
-module _ {k : Lanes} {s bits : List ℕ} {n : ℕ} (w : ChunksIn k s bits n) (c : ℕ) (more : c < length bits) where
+module _ {k : Widening} {s bits : List ℕ} {n : ℕ} (w : ChunksIn k s bits n) (c : ℕ) (more : c < length bits) where
   abbrev per : ℕ
   per = 8 / bytes_of k.width
 

@@ -14,7 +14,7 @@ use Rattle.steps.specs.declared.Rule.{Rule}
 use Rattle.steps.specs.declared.Rule.TheVariants.{Always, LaneBit, ElementBit}
 use Rattle.steps.proofs.Walks.{many}
 use Rattle.plans.specs.Inside.{ShapedAs, Shaped}
-use Rattle.bench.specs.declared.chunks.Lanes.{Lanes}
+use Rattle.bench.specs.declared.chunks.Widening.{Widening}
 use Rattle.bench.specs.Inside.Quick.{ChunksOut, is_always, own_of, stride_of, count_of, own_in, FillIn, OwnOut}
 use Rattle.bench.proofs.Small.{slot, chunk_whole}
 use Rattle.bench.proofs.Many.{any_many}
@@ -108,7 +108,7 @@ module _ {p : Plan} {pred s : List ℕ} {n : ℕ} (f : FillIn p pred s n) where
   own_there = omega (arith, own_room, f.fit.decided f.asks)
 
   -- .. as they are asked of the stretch, and as they come back
-  abbrev lanes_of : ℕ → Lanes
+  abbrev lanes_of : ℕ → Widening
   lanes_of stride = record { size = p.size; width = p.lane; signed = p.signed; stride = stride }
 
   module _ {own stride : ℕ} (o : own ≡ own_in p) (d : stride ≡ stride_of p.rule (bytes_of p.size)) where

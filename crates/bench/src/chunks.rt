@@ -1,6 +1,6 @@
 // Lanes that are filled from a stretch of memory, chunk by chunk. A chunk is eight bytes of a register; one byte of the predicate says which of
 // its lanes are filled; LD1R to LD4R, which have no predicate, fill every lane of a chunk with one element. The quick road fetches bytes of memory in
-// `element` alone, which `Lanes::lane` calls, for a lane that is on, and `spread`: no byte of an inactive lane is fetched.
+// `element` alone, which `Widening::lane` calls, for a lane that is on, and `spread`: no byte of an inactive lane is fetched.
 ghost use Rattle.std.specs.Prelude.{if◌then◌else◌, ◌≡◌, ◌+◌, ◌*◌, ◌/◌, ◌%◌, ◌^◌, ◌<◌, ◌≤◌, false, [], ◌∷◌, length};
 ghost use Rattle.ground.specs.Lists.{bytes_at};
 ghost use Rattle.memory.specs.Addresses.{wrap};
@@ -25,14 +25,14 @@ fn element(stretch: &[u8], at: usize, size: Size) -> u64
 // How lanes take their elements from a stretch: the size of an element and of a lane, whether the sign goes along, and how far apart the
 // elements of neighbouring lanes lie. What is inlined below has both sizes as constants: without that a load takes twice the instructions.
 #[derive(Clone, Copy)]
-pub(crate) struct Lanes {
+pub(crate) struct Widening {
     pub(crate) size: Size,
     pub(crate) width: Size,
     pub(crate) signed: bool,
     pub(crate) stride: usize,
 }
 
-impl Lanes {
+impl Widening {
     // What a lane becomes: where it is on, the element at a place, extended; and else zero, with no byte looked at.
     fn lane(self, on: bool, stretch: &[u8], at: usize) -> u64
         requires { at + bytes_of self.size ≤ length stretch.now }
@@ -96,10 +96,10 @@ impl Lanes {
         ensures { ChunksOut self stretch.now bits.now (length dst.old) dst.new result }
     {
         match self.width {
-            B8 => Lanes { width: B8, ..self }.chunks(dst, stretch, bits),
-            B16 => Lanes { width: B16, ..self }.chunks(dst, stretch, bits),
-            B32 => Lanes { width: B32, ..self }.chunks(dst, stretch, bits),
-            B64 => Lanes { width: B64, ..self }.chunks(dst, stretch, bits),
+            B8 => Widening { width: B8, ..self }.chunks(dst, stretch, bits),
+            B16 => Widening { width: B16, ..self }.chunks(dst, stretch, bits),
+            B32 => Widening { width: B32, ..self }.chunks(dst, stretch, bits),
+            B64 => Widening { width: B64, ..self }.chunks(dst, stretch, bits),
         }
     }
 
@@ -109,10 +109,10 @@ impl Lanes {
         ensures { ChunksOut self stretch.now bits.now (length dst.old) dst.new result }
     {
         match self.size {
-            B8 => Lanes { size: B8, ..self }.by_width(dst, stretch, bits),
-            B16 => Lanes { size: B16, ..self }.by_width(dst, stretch, bits),
-            B32 => Lanes { size: B32, ..self }.by_width(dst, stretch, bits),
-            B64 => Lanes { size: B64, ..self }.by_width(dst, stretch, bits),
+            B8 => Widening { size: B8, ..self }.by_width(dst, stretch, bits),
+            B16 => Widening { size: B16, ..self }.by_width(dst, stretch, bits),
+            B32 => Widening { size: B32, ..self }.by_width(dst, stretch, bits),
+            B64 => Widening { size: B64, ..self }.by_width(dst, stretch, bits),
         }
     }
 }

@@ -5,7 +5,7 @@ ghost use Rattle.ground.specs.Sizes.{bytes_of};
 ghost use Rattle.steps.specs.Inside.{PlanInRange};
 ghost use Rattle.bench.specs.Inside.Quick.{Copied, is_always, stride_of, count_of, own_in, FillIn, FillOut, ReplicateIn, ReplicateOut};
 
-use crate::chunks::{self, Lanes};
+use crate::chunks::{self, Widening};
 use crate::fills;
 use steps::{Plan, Rule};
 
@@ -104,13 +104,13 @@ pub(crate) fn fill(dst: &mut [u8], stretch: &[u8], pred: &[u8], plan: Plan) -> u
     ensures { FillOut plan pred.now stretch.now (length dst.old) dst.new result }
 {
     let own = own_of(plan);
-    let lanes = Lanes {
+    let widening = Widening {
         size: plan.size,
         width: plan.lane,
         signed: plan.signed,
         stride: own.stride,
     };
-    let lanes_on = lanes.fill(dst, stretch, &pred[..own.chunks]);
+    let lanes_on = widening.fill(dst, stretch, &pred[..own.chunks]);
     let end = (plan.filled * plan.lane.bytes()) as usize;
     blocks(dst, own.chunks * 8, end);
     fills::zeros(dst, end);

@@ -15,7 +15,7 @@ use Rattle.steps.specs.declared.Rule.{Rule}
 use Rattle.steps.specs.declared.Rule.TheVariants.{Always, LaneBit, ElementBit}
 use Rattle.steps.proofs.Walks.{many}
 use Rattle.plans.specs.Inside.{Shaped}
-use Rattle.bench.specs.declared.chunks.Lanes.{Lanes}
+use Rattle.bench.specs.declared.chunks.Widening.{Widening}
 
 -- what a stretch that starts with element 0 says of element e
 unfoldable pub answers_from : List ℕ → Plan → ℕ → Reading
@@ -40,11 +40,11 @@ pub record LanesOut (s : List ℕ) (from : ℕ) (bits : List ℕ) (stride : ℕ)
   pub filled : Filled (byte_from s from bits stride signed size width) width n dst lanes
 
 -- what chunks in n bytes need of the stretch, one for each byte of bits, and what is left of these bytes with the number of lanes that are on
-pub record ChunksIn (k : Lanes) (s bits : List ℕ) (n : ℕ) : Type 0 where
+pub record ChunksIn (k : Widening) (s bits : List ℕ) (n : ℕ) : Type 0 where
   pub room : length bits * 8 ≤ n
   pub inside : ElementsIn s 0 k.stride (bytes_of k.size) (length bits * (8 / bytes_of k.width))
 
-abbrev pub ChunksOut : Lanes → List ℕ → List ℕ → ℕ → List ℕ → ℕ → Type 0
+abbrev pub ChunksOut : Widening → List ℕ → List ℕ → ℕ → List ℕ → ℕ → Type 0
 ChunksOut k s bits n dst on =
     LanesOut s 0 bits k.stride k.signed (bytes_of k.size) (bytes_of k.width) n dst on (length bits * (8 / bytes_of k.width))
 

@@ -5,7 +5,7 @@ use Rattle.ground.proofs.Fills.{Filled}
 use Rattle.steps.specs.Lanes.{bit_of}
 use Rattle.steps.proofs.Walks.{many}
 use Rattle.bench.specs.Inside.Quick.{byte_from}
-use Rattle.bench.proofs.chunks.Lanes.chunk.Given as goal
+use Rattle.bench.proofs.chunks.Widening.chunk.Given as goal
 
 abbrev pub invariant-loop-l : goal.invariant-loop-l
 invariant-loop-l l =

@@ -4,7 +4,7 @@ use Rattle.ground.specs.Sizes.{bytes_of}
 use Rattle.ground.proofs.Sizes.{bytes_some}
 use Rattle.bench.proofs.Small.{chunk_whole}
 use Rattle.bench.proofs.Lanes.{chunk_in, chunk_turn, count_turn, count_most, chunk_room, chunks_filled}
-use Rattle.bench.proofs.chunks.Lanes.chunks.Goals as goal
+use Rattle.bench.proofs.chunks.Widening.chunks.Goals as goal
 
 pub chunk-lanes_on-requires-clause-inside : goal.chunk-lanes_on-requires-clause-inside
 chunk-lanes_on-requires-clause-inside c = rw c.bytes.ensures (chunk_in c.requires c.loop-c.c c.loop-c-test.true)

@@ -6,7 +6,7 @@ use Rattle.steps.specs.Lanes.{bit_of}
 use Rattle.bench.proofs.Small.{slot, chunk_whole}
 use Rattle.bench.proofs.Many.{many_next, next_most, one_is}
 use Rattle.bench.proofs.Lanes.{chunk_off, lane_turn}
-use Rattle.bench.proofs.chunks.Lanes.chunk.Goals as goal
+use Rattle.bench.proofs.chunks.Widening.chunk.Goals as goal
 
 pub returns-then-byte-eq0 : goal.returns-then-byte-eq0
 returns-then-byte-eq0 c =

@@ -5,7 +5,7 @@ use Rattle.ground.proofs.Fills.{Filled}
 use Rattle.steps.specs.Lanes.{bit_of}
 use Rattle.steps.proofs.Walks.{many}
 use Rattle.bench.specs.Inside.Quick.{byte_from}
-use Rattle.bench.proofs.chunks.Lanes.chunks.Given as goal
+use Rattle.bench.proofs.chunks.Widening.chunks.Given as goal
 
 abbrev pub invariant-loop-c : goal.invariant-loop-c
 invariant-loop-c l =
