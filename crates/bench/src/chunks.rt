@@ -23,7 +23,8 @@ fn element(stretch: &[u8], at: usize, size: Size) -> u64
 }
 
 // How lanes take their elements from a stretch: the size of an element and of a lane, whether the sign goes along, and how far apart the
-// elements of neighbouring lanes lie. What is inlined below has both sizes as constants: without that a load takes twice the instructions.
+// elements of neighbouring lanes lie. What is inlined below has the sizes and the sign as constants: without the sizes all loads mixed take
+// twice the instructions, and without the sign up to 3 % more.
 #[derive(Clone, Copy)]
 pub(crate) struct Widening {
     pub(crate) size: Size,
@@ -89,21 +90,42 @@ impl Widening {
         lanes_on
     }
 
-    // The same, with a call for each size of a lane ..
+    // The same, with a call for each sign ..
+    #[inline(always)]
+    fn by_sign(self, dst: &mut [u8], stretch: &[u8], bits: &[u8]) -> u64
+        requires { ChunksIn self stretch.now bits.now (length dst.old) }
+        ensures { ChunksOut self stretch.now bits.now (length dst.old) dst.new result }
+    {
+        if self.signed {
+            Widening {
+                signed: true,
+                ..self
+            }
+            .chunks(dst, stretch, bits)
+        } else {
+            Widening {
+                signed: false,
+                ..self
+            }
+            .chunks(dst, stretch, bits)
+        }
+    }
+
+    // .. for each size of a lane ..
     #[inline(always)]
     fn by_width(self, dst: &mut [u8], stretch: &[u8], bits: &[u8]) -> u64
         requires { ChunksIn self stretch.now bits.now (length dst.old) }
         ensures { ChunksOut self stretch.now bits.now (length dst.old) dst.new result }
     {
         match self.width {
-            B8 => Widening { width: B8, ..self }.chunks(dst, stretch, bits),
-            B16 => Widening { width: B16, ..self }.chunks(dst, stretch, bits),
-            B32 => Widening { width: B32, ..self }.chunks(dst, stretch, bits),
-            B64 => Widening { width: B64, ..self }.chunks(dst, stretch, bits),
+            B8 => Widening { width: B8, ..self }.by_sign(dst, stretch, bits),
+            B16 => Widening { width: B16, ..self }.by_sign(dst, stretch, bits),
+            B32 => Widening { width: B32, ..self }.by_sign(dst, stretch, bits),
+            B64 => Widening { width: B64, ..self }.by_sign(dst, stretch, bits),
         }
     }
 
-    // .. and for each of an element, so that the compiler makes a loop for each two.
+    // .. and for each size of an element, so that the compiler makes a loop for each row of sizes and sign.
     pub(crate) fn fill(self, dst: &mut [u8], stretch: &[u8], bits: &[u8]) -> u64
         requires { ChunksIn self stretch.now bits.now (length dst.old) }
         ensures { ChunksOut self stretch.now bits.now (length dst.old) dst.new result }
