@@ -73,6 +73,23 @@ either : (t : Bool) (b : Bench) → b ≡ (if t then b else b)
 either true b = refl
 either false b = refl
 
+-- a set-up, by the tests of its files and of its areas
+module _ (l : Lent) (b : Bench) (files : Bool) (e : files ≡ are_files_accepted l.settings.vl (length b.vectors) (length l.predicates) (length b.scalars)) where
+  pub not_files : files ≡ false → is_accepted l b ≡ false
+  unfolding is_accepted
+  not_files h = rw (sym e ∙ h)
+
+  module _ (m : Areas) (lent : m ≡ areas_in l b) (areas : Bool) (q : areas ≡ are_areas_accepted m) where
+    both : is_accepted l b ≡ (files && areas)
+    unfolding is_accepted
+    both = rw (e, q, lent)
+
+    pub not_areas : files ≡ true → areas ≡ false → is_accepted l b ≡ false
+    not_areas h k = both ∙ rw (h, k)
+
+    pub accepts : files ≡ true → areas ≡ true → Accepted l b
+    accepts h k = (accepted_exactly l b).0 (both ∙ rw (h, k))
+
 -- a word: the answer that stops it, or its plan
 module _ (l : Lent) (b : Bench) (w : ℕ) where
   abbrev Word : StepResult → Bench → Type 0
@@ -92,23 +109,7 @@ module _ (l : Lent) (b : Bench) (w : ℕ) where
   unfolding EndsAs stacked prepared_of
   goes p h r after e = rw h e
 
-  -- a step: "1", and then the word
-  module _ (files : Bool) (e : files ≡ are_files_accepted l.settings.vl (length b.vectors) (length l.predicates) (length b.scalars)) where
-    pub not_files : files ≡ false → is_accepted l b ≡ false
-    unfolding is_accepted
-    not_files h = rw (sym e ∙ h)
-
-    module _ (m : Areas) (lent : m ≡ areas_in l b) (areas : Bool) (q : areas ≡ are_areas_accepted m) where
-      both : is_accepted l b ≡ (files && areas)
-      unfolding is_accepted
-      both = rw (e, q, lent)
-
-      pub not_areas : files ≡ true → areas ≡ false → is_accepted l b ≡ false
-      not_areas h k = both ∙ rw (h, k)
-
-      pub accepts : files ≡ true → areas ≡ true → Accepted l b
-      accepts h k = (accepted_exactly l b).0 (both ∙ rw (h, k))
-
+  -- a step: "1", or the word
   pub steps : InTypes l w b → Accepted l b → (r : StepResult) (after : Bench) → Word r after → StepPromise l w b r l after
   unfolding EndsAs step_of
   steps t h r after e = record { came = t; ends = rw ((accepted_exactly l b).1 h) e }

@@ -24,13 +24,13 @@ came word files areas =
 
 pub accepted_step-requires : goal.accepted_step-requires
 accepted_step-requires c =
-    accepts _ _ 0 _ c.files_accepted.ensures.accepted _ c.areas-areas.ensures.lent _ c.accepted.ensures c.if-files_accepted.true c.if-accepted.true
+    accepts _ _ _ c.files_accepted.ensures.accepted _ c.areas-areas.ensures.lent _ c.accepted.ensures c.if-files_accepted.true c.if-accepted.true
 
 pub returns-then-accepted : goal.returns-then-accepted
 returns-then-accepted c =
     let types = came c.ranges.word.fits c.files_accepted.ensures.in_types c.areas-areas.ensures.in_types in
     steps _ _ _ types
-    (accepts _ _ 0 _ c.files_accepted.ensures.accepted _ c.areas-areas.ensures.lent _ c.accepted.ensures c.if-files_accepted.true c.if-accepted.true)
+    (accepts _ _ _ c.files_accepted.ensures.accepted _ c.areas-areas.ensures.lent _ c.accepted.ensures c.if-files_accepted.true c.if-accepted.true)
     _ _ c.accepted_step.ensures
 
 pub returns : goal.returns
@@ -39,6 +39,6 @@ returns c =
     let files = c.files_accepted.ensures.accepted in
     elim c.else-files_accepted.branch [
       | else-files_accepted-via-then-files_accepted+else-accepted w ↦ set_up _ _ _ types
-          (not_areas _ _ 0 _ files _ c.areas-areas.ensures.lent _ w.accepted.ensures w.if-files_accepted.true w.if-accepted.false)
-      | else-files_accepted-via-else-files_accepted w ↦ set_up _ _ _ types (not_files _ _ 0 _ files w.if-files_accepted.false)
+          (not_areas _ _ _ files _ c.areas-areas.ensures.lent _ w.accepted.ensures w.if-files_accepted.true w.if-accepted.false)
+      | else-files_accepted-via-else-files_accepted w ↦ set_up _ _ _ types (not_files _ _ _ files w.if-files_accepted.false)
     ]
