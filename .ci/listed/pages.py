@@ -43,8 +43,8 @@ def by_whole_name(tree, name):
 
 
 def by_short_name(tree, name):
-    """The public theorems of this name, whichever crate has them; none where a function of the code has the name."""
-    if any(name == f.name for source in tree.sources.values() for f in source.functions):
+    """The public theorems of this name, whichever crate has them; none where a function or a method of the code has the name."""
+    if any(name == f.name.split("::")[-1] for source in tree.sources.values() for f in source.functions):
         return []
     found = [Node(key, name) for key, file in tree.files.items() if name in file.declared and "pub" in file.declared[name].marks]
     return [node for node in found if not node.file.startswith("claims/") and is_theorem(tree, node)]

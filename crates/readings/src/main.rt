@@ -13,7 +13,7 @@ use std::io;
 use std::io::Print;
 
 // Runs each row and writes its line. The verdict is whether the text of what came is what a document says.
-fn readings(
+fn lines(
     rt: &impl Print,
     as_said: &mut Share,
     rows: &[Row],
@@ -47,9 +47,9 @@ fn table(rt: &impl Print, flash: &[u8], ram: &[u8]) -> io::Result<()> {
         "word", "set-up", "document 01 or 02 says", "what came"
     )?;
     let mut as_said = Share::NONE;
-    readings(rt, &mut as_said, &rows::table(), flash, ram)?;
-    readings(rt, &mut as_said, &rows::limits(), flash, ram)?;
-    readings(rt, &mut as_said, &rows::request_one(), flash, ram)?;
+    lines(rt, &mut as_said, &rows::table(), flash, ram)?;
+    lines(rt, &mut as_said, &rows::limits(), flash, ram)?;
+    lines(rt, &mut as_said, &rows::request_one(), flash, ram)?;
     println!(rt; "\n{as_said} readings as the documents say")
 }
 
