@@ -1,9 +1,9 @@
 -- A stretch of one area, on pages that may be read: a load finds each of its bytes, and what memory says of an element in it, the stretch
 -- says.
-use Rattle.std.proofs.Common.{◌≡◌, ℕ, ◌+◌, ◌*◌, ◌<◌, ◌≤◌, List, Ok, get_or, sym, ap, ◌∙◌, mod-lt, zero-add, arith, lit<}
+use Rattle.std.proofs.Common.{◌≡◌, ℕ, ◌+◌, ◌*◌, ◌<◌, ◌≤◌, true, ◌&&◌, eqb, eqb-true, List, Ok, get_or, sym, ap, ◌∙◌, mod-lt, zero-add, arith, lit<}
 use Rattle.ground.specs.Lists.{bytes_at}
 use Rattle.ground.specs.Sizes.{bytes_of}
-use Rattle.ground.proofs.Laws.{little_cong}
+use Rattle.ground.proofs.Laws.{and_left, and_right, little_cong}
 use Rattle.memory.specs.Addresses.{plus_of}
 use Rattle.memory.specs.Areas.{Area, Areas}
 use Rattle.memory.specs.Bytes.{look_of}
@@ -18,6 +18,10 @@ use Rattle.steps.specs.declared.Plan.{Plan}
 use Rattle.bench.specs.Inside.Stretches.{Within, Together}
 use Rattle.bench.specs.Inside.Quick.{answers_from}
 use Rattle.bench.proofs.Small.{slot}
+
+-- two rights that are tested together
+pub both_ones : (x y : ℕ) → (eqb x 1 && eqb y 1) ≡ true → (x ≡ 1) × (y ≡ 1)
+both_ones x y t = (eqb-true x 1 (and_left (eqb x 1) (eqb y 1) t), eqb-true y 1 (and_right (eqb x 1) (eqb y 1) t))
 
 -- an area is one of two that are accepted
 area_accepted : (m : Areas) → AreasAccepted m → {r : Area} → OneOf m r → AreaAccepted r
