@@ -26,21 +26,16 @@ pub(crate) fn asked_address(parts: Parts, n: Numbers) -> Told
         ram.rights,
         a,
     );
-    let element = part.len() as u64;
-    match areas.shown_place(a) {
-        Some(Place::Flash(k)) => Told {
-            number: 1,
-            count: k as u64,
-            element,
-            address: 0,
-        },
-        Some(Place::Ram(k)) => Told {
-            number: 2,
-            count: k as u64,
-            element,
-            address: 0,
-        },
-        None => Told::default(),
+    let (number, k) = match areas.shown_place(a) {
+        Some(Place::Flash(k)) => (1, k),
+        Some(Place::Ram(k)) => (2, k),
+        None => return Told::default(),
+    };
+    Told {
+        number,
+        count: k as u64,
+        element: part.len() as u64,
+        address: 0,
     }
 }
 
