@@ -12,7 +12,7 @@ use steps::{Lent, Settings, StepResult};
 
 // What a step tells a host: the answer's number, the count of element reads, and the element and address of a fault.
 #[repr(C)]
-#[derive(Clone, Copy)]
+#[derive(Clone, Copy, Debug, PartialEq, Eq)]
 pub struct StepNumbers {
     pub number: u64,
     pub count: u64,
@@ -21,15 +21,17 @@ pub struct StepNumbers {
 }
 
 // A result in the scope of work's numbers.
-fn numbered(res: StepResult) -> StepNumbers
-    ensures { report_in result ≡ report_of res }
-{
-    let answer = res.answer;
-    StepNumbers {
-        number: answer.number(),
-        count: res.count,
-        element: answer.element(),
-        address: answer.address().0,
+impl From<StepResult> for StepNumbers {
+    ghost from_gives = { λ res numbers. report_in numbers ≡ report_of res };
+
+    fn from(res: StepResult) -> StepNumbers {
+        let answer = res.answer;
+        StepNumbers {
+            number: answer.number(),
+            count: res.count,
+            element: answer.element(),
+            address: answer.address().0,
+        }
     }
 }
 
@@ -72,5 +74,5 @@ pub fn kjolvast_step<'a>(
         flash_rights,
         ram_rights,
     };
-    numbered(bench::step(z, x, ram, word, lent))
+    bench::step(z, x, ram, word, lent).into()
 }
