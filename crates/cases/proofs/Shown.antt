@@ -9,7 +9,7 @@ use Rattle.lanes.specs.declared.Kind.{Kind}
 use Rattle.lanes.specs.declared.Kind.TheVariants.{Whole, Single, Double}
 use Rattle.lanes.specs.declared.Shown.{Shown}
 use Rattle.cases.specs.Windows.{asked_of}
-use Rattle.cases.specs.Inside.{kind_asked}
+use Rattle.cases.specs.Inside.{lane_kind}
 use Rattle.cases.specs.declared.heads.Numbers.{Numbers}
 
 -- what is shown of the kind that three tests choose
@@ -29,10 +29,10 @@ module _ (f : Kind → Option Shown) where
   none false false false e = refl
 
 module _ (vl : ℕ) (z : List ℕ) (n : Numbers) where
-  pub asked_kind : (k : Kind) → Some k ≡ kind_asked n.a1 → asked_of vl z n ≡ shown_of vl z n.a0 k n.a2 n.a3
+  pub asked_kind : (k : Kind) → Some k ≡ lane_kind n.a1 → asked_of vl z n ≡ shown_of vl z n.a0 k n.a2 n.a3
   asked_kind k = some (λ (m : Kind). shown_of vl z n.a0 m n.a2 n.a3) (eqb n.a1 0) (eqb n.a1 1) (eqb n.a1 2) k
 
-  pub asked_none : None ≡ kind_asked n.a1 → asked_of vl z n ≡ None
+  pub asked_none : None ≡ lane_kind n.a1 → asked_of vl z n ≡ None
   asked_none = none (λ (m : Kind). shown_of vl z n.a0 m n.a2 n.a3) (eqb n.a1 0) (eqb n.a1 1) (eqb n.a1 2)
 
 -- .. and of a register or a width that is too large, and that no lane is shown as a NaN

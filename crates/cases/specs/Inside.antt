@@ -35,8 +35,8 @@ pub record Bounds (c : Case) : Type 0 where
   pub blob : (carried c.question).blob ≤ 65536
 
 -- how a lane is asked for, by its number
-abbrev pub kind_asked : ℕ → Option Lane.Kind
-kind_asked n = first_of ((eqb n 0 ⇒ Some Whole) ∷ (eqb n 1 ⇒ Some Single) ∷ (eqb n 2 ⇒ Some Double) ∷ []) None
+abbrev pub lane_kind : ℕ → Option Lane.Kind
+lane_kind n = first_of ((eqb n 0 ⇒ Some Whole) ∷ (eqb n 1 ⇒ Some Single) ∷ (eqb n 2 ⇒ Some Double) ∷ []) None
 
 -- what is told, as a report
 abbrev pub report_in : Told → Report

@@ -2,7 +2,7 @@
 ghost use Rattle.std.specs.Prelude.{◌≡◌};
 ghost use Rattle.lanes.specs.Said.{NoNan};
 ghost use Rattle.cases.specs.Windows.{address_told, asked_of, lane_told};
-ghost use Rattle.cases.specs.Inside.{kind_asked, report_in, areas_by};
+ghost use Rattle.cases.specs.Inside.{lane_kind, report_in, areas_by};
 
 use crate::heads::Numbers;
 use crate::outcomes::Told;
@@ -40,8 +40,8 @@ pub(crate) fn asked_address(parts: Parts, n: Numbers) -> Told
 }
 
 // How a lane is asked for: whole, as a single or as a double.
-fn kind_asked(number: u64) -> Option<Kind>
-    ensures { result ≡ kind_asked number }
+fn lane_kind(number: u64) -> Option<Kind>
+    ensures { result ≡ lane_kind number }
 {
     match number {
         0 => Some(Kind::Whole),
@@ -57,7 +57,7 @@ fn shown(vl: u64, z: &[u8], n: Numbers) -> Option<Shown>
     ensures exactly { result ≡ asked_of vl z.now n }
     ensures no_nan { NoNan result }
 {
-    let kind = kind_asked(n.a1)?;
+    let kind = lane_kind(n.a1)?;
     let register = u32::try_from(n.a0).ok()?;
     let width = u32::try_from(n.a2).ok()?;
     lanes::show(vl, z, register, kind, width, n.a3)
