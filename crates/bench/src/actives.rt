@@ -9,7 +9,8 @@ ghost use Rattle.bench.specs.Inside.Quick.{FillFits};
 
 use steps::{Plan, Rule};
 
-// The bytes of the governing predicate, where there is one: a register of n bytes in a file of 16.
+// The bytes of the governing predicate, where there is one: a register of n bytes in a file of 16. They are asked for before there is a `Lanes`,
+// which is made of them, so what is known of its plan is asked here.
 pub(crate) fn governing_bytes<'p>(predicates: &'p [u8], n: usize, plan: Plan) -> &'p [u8]
     requires plan_in_range { PlanInRange plan }
     requires n_bound { (n ≤ 32) × (length predicates.now ≡ 16 * n) }
@@ -32,7 +33,8 @@ pub(crate) fn bit_is_set(pred: &[u8], bit: u64) -> bool
     }
 }
 
-// A plan, over registers of so many bytes, with the bytes of the predicate that governs it.
+// A plan, over registers of so many bytes, with the bytes of the predicate that governs it. The numbers of lanes and elements that its methods take
+// stay numbers, bounded where they come in: a type for them would be unwrapped in each line.
 #[derive(Clone, Copy)]
 pub(crate) struct Lanes<'a> {
     pub plan: Plan,

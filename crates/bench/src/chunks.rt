@@ -90,7 +90,7 @@ impl Widening {
         lanes_on
     }
 
-    // The same, with a call for each sign ..
+    // The same, under the same contract, which names what is lent and so is no fact of the struct: with a call for each sign ..
     #[inline(always)]
     fn by_sign(self, dst: &mut [u8], stretch: &[u8], bits: &[u8]) -> u64
         requires { ChunksIn self stretch.now bits.now (length dst.old) }

@@ -11,7 +11,7 @@ use crate::reads::Load;
 use ground::Size;
 use steps::Plan;
 
-// The largest number of a size.
+// The largest number of a size. A table, as `Size::bytes` is: 2^64 - 1 shifted by what is missing to 64 bits would say less.
 fn largest(size: Size) -> u64
     ensures { result ≡ 2 ^ (8 * bytes_of size) - 1 }
 {
@@ -92,7 +92,7 @@ fn base(x: &mut [u64], plan: Plan)
     }
 }
 
-// Writes the base back and moves PC on. The base is never PC.
+// Writes the base back and moves PC on. The base is never PC, which the plan alone says, without its lanes.
 #[tactic(auto, unfolding(steps::specs::Outcomes::scalars_after))]
 pub(crate) fn scalars(x: &mut [u64], plan: Plan)
     requires plan_in_range { PlanInRange plan }

@@ -36,7 +36,8 @@ fn files_accepted(vl: u64, z: &[u8], predicates: &[u8], x: &[u64]) -> bool
         && x.len() == 33
 }
 
-// The two areas, of bytes.
+// The two areas, of bytes. `cases` and memory's window make them of what they have: a constructor for the three would be one more public
+// function with a promise, for ten lines of names.
 fn areas<'a>(
     map: Map,
     flash: &'a [u8],
@@ -62,7 +63,7 @@ fn areas<'a>(
 }
 
 // Carries a plan out: the stack rule, then the load, and where that ran the base and PC. The governing predicate's part is taken here,
-// once.
+// once, and here what is known of the plan becomes a fact of a `Lanes`.
 fn carry_out<'a>(
     z: &mut [u8],
     x: &mut [u64],
@@ -120,7 +121,8 @@ fn accepted_step<'a>(
     }
 }
 
-// One step. The vector file and the scalars are lent to be written; RAM is lent beside them, to be read.
+// One step. The vector file and the scalars are lent to be written; RAM is lent beside them, to be read. They stay parameters of their own down to
+// `carry_out`: of a struct of `&mut` slices the promise would have to speak by `.entry` and `.exit`, part by part.
 pub fn step<'a>(z: &mut [u8], x: &mut [u64], ram: &'a [u8], word: u32, lent: Lent<'a>) -> StepResult
     ensures { let l = lent_of lent.entry in StepPromise l word (bench_of z.old x.old ram.now) result l (bench_of z.new x.new ram.now) }
 {

@@ -46,7 +46,7 @@ struct Own {
     stride: usize,
 }
 
-// By the rule. LD1R to LD4R, which `replicate` fills, ask for none of it.
+// By the rule, of the plan alone, without its lanes. LD1R to LD4R, which `replicate` fills, ask for none of it.
 fn own_of(plan: Plan) -> Own
     requires { PlanInRange plan }
     ensures { (result.chunks ≡ own_in plan) × (result.stride ≡ stride_of plan.rule (bytes_of plan.size)) }

@@ -7,7 +7,7 @@ use crate::actives::Lanes;
 use memory::{Areas, BadByte};
 use steps::{Answer, StepResult};
 
-// A load, with the two areas that it reads.
+// A load, with the two areas that it reads. Its methods take an element's, a lane's and a destination's number as those of `Lanes` do.
 #[derive(Clone, Copy)]
 pub(crate) struct Load<'a> {
     pub lanes: Lanes<'a>,

@@ -15,7 +15,7 @@ use crate::reads::Load;
 use crate::{fills, quick, stretches};
 use steps::{Answer, Plan, Rule, StepResult};
 
-// The register that destination j is: from the target on, 31 followed by 0.
+// The register that destination j is: from the target on, 31 followed by 0. Both roads ask for it, by the plan alone.
 #[tactic(auto, unfolding(steps::specs::Lanes::destination_of))]
 fn destination(plan: Plan, j: u64) -> usize
     requires { (PlanInRange plan) × (j ≤ 256) }
@@ -37,6 +37,7 @@ fn destinations_in(plan: Plan) -> u64
     }
 }
 
+// That z is 32 registers long is asked with each z: a struct that holds z and keeps the fact would have to lend it on in each call.
 impl<'a> Load<'a> {
     // What a load that ran writes into destination j, element by element: where it read nothing, zeros.
     fn written(self, dst: &mut [u8], j: u64, count: u64)

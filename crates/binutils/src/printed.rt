@@ -7,7 +7,7 @@ use std::fmt;
 use std::fmt::Formatter;
 use words::{Dtype, Insn, Offset, Shape};
 
-// A size by its logarithm k: 2^k bytes.
+// A size by its logarithm k: 2^k bytes. A table, as `Size::bytes` is.
 fn log(size: Size) -> u32
     ensures { result < 32 }
 {

@@ -18,7 +18,7 @@ const LONGEST_STEP: usize = 465185;
 
 const LONGEST_OUTCOME: usize = 66585;
 
-// Why the replay ends before a step.
+// Why the replay ends before a step. replay has a `Stop` too, for other ends; what both tell of a refusal is `telling`'s.
 #[derive(Clone, Copy)]
 enum Stop {
     End,

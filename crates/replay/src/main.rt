@@ -12,7 +12,7 @@ const HEAD: usize = 96;
 
 const LONGER_HEAD: usize = 136;
 
-// Why the run ends before a case.
+// Why the run ends before a case. qemu has a `Stop` too, for other ends; what both tell of a refusal is `telling`'s.
 #[derive(Clone, Copy)]
 enum Stop {
     End,

@@ -92,7 +92,7 @@ impl Answer {
         }
     }
 
-    // The address that a fault names, and 0 where there is none.
+    // The address that a fault names, and 0 where there is none: the fault's other field, with a promise of its own.
     pub fn address(self) -> Address
         ensures { AnswerAddressPromise self result }
     {
