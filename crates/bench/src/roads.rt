@@ -37,7 +37,7 @@ fn destinations_in(plan: Plan) -> u64
     }
 }
 
-// That z is 32 registers long is asked with each z: a struct that holds z and keeps the fact would have to lend it on in each call.
+// That z is 32 registers long is asked with each z: the prover covers no struct that keeps a fact beside a `&mut`.
 impl<'a> Load<'a> {
     // What a load that ran writes into destination j, element by element: where it read nothing, zeros.
     fn written(self, dst: &mut [u8], j: u64, count: u64)
@@ -93,7 +93,8 @@ impl<'a> Load<'a> {
     }
 }
 
-// Destination j of LD1R to LD4R, a middle part of the vector file, which is lent on to be filled from its own element in a stretch.
+// Destination j of LD1R to LD4R, a middle part of the vector file, which is lent on to be filled from its own element in a stretch. The bytes of an
+// element and of the lanes that take it are the plan's, found once for every destination.
 #[tactic(auto, using(crate::proofs::Files::in_32))]
 fn replicate_at(
     z: &mut [u8],
