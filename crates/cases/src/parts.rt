@@ -81,7 +81,7 @@ impl<'a> Parts<'a> {
     }
 }
 
-// Reads numbers of 8 bytes.
+// Reads numbers of 8 bytes, each from its place: of what is written through a zip of `iter_mut` with `chunks_exact` the proof knows nothing.
 fn numbers(x: &mut [u64], s: &[u8])
     requires { 8 * length x.old ≤ length s.now }
     ensures { x.new ≡ listed (λ i. bytes_at s.now (8 * i) 8) 0 (length x.old) }

@@ -20,7 +20,7 @@ pub fn line(prefix: &[u8], number: u64, why: &[u8]) -> Text
         .and(b"\n")
 }
 
-// That a part is over its limit. The limits are those of docs/CASES.md.
+// That a part is over its limit, in whole texts that a search for them finds. The limits are those of docs/CASES.md.
 fn over_limit(part: Part) -> &'static str
     ensures { result.now ≡ codes (over_limit part) }
 {
