@@ -21,11 +21,12 @@ use Rattle.bench.specs.Inside.Roads.{Targeted}
 
 -- a load that reads every element of a stretch
 module _ (p : Plan) (pred s : List ℕ) where
-  all_read : {count : ℕ} → count ≡ many (wanted p pred) 0 p.elements
-      → report_of (record { count = count; answer = Ran }) ≡ survey_of (answers_from s p) p pred
+  all_read : {count : ℕ} → count ≡ many (wanted p pred) 0 p.elements → {r : StepResult} → r ≡ record { count = count; answer = Ran }
+      → report_of r ≡ survey_of (answers_from s p) p pred
   unfolding survey_of asked answers_from
-  all_read c =
-      ap (λ (k : ℕ). report_with 0 k 0 0) (c ∙ sym (zero-add _))
+  all_read c e =
+      ap report_of e
+      ∙ ap (λ (k : ℕ). report_with 0 k 0 0) (c ∙ sym (zero-add _))
       ∙ sym (walk_clear (wanted p pred) (answers_from s p) 0 0 p.elements (λ _ _ _ _. refl))
 
   -- where the rule asks bits there is one destination, a register that is lent out of the vector file
@@ -35,26 +36,27 @@ module _ (p : Plan) (pred s : List ℕ) where
   one_destination ElementBit h = refl
 
   pub one_filled : (z : List ℕ) (n : ℕ) → FillIn p pred s n → {ys : List ℕ} {count : ℕ} → FillOut p pred s n ys count
-      → (let a = p.target * n in Targeted (answers_from s p) p pred n z (record { count = count; answer = Ran }) (take a z ++ (ys ++ drop (a + n - a) (drop a z))))
+      → {r : StepResult} → r ≡ record { count = count; answer = Ran }
+      → (let a = p.target * n in Targeted (answers_from s p) p pred n z r (take a z ++ (ys ++ drop (a + n - a) (drop a z))))
   unfolding vectors_after destinations_in destination_of
-  one_filled z n f {ys} out =
+  one_filled z n f {ys} out e =
       let target = f.fit.sound.target in
       let first : (p.target + 0) % 32 ≡ p.target = omega arith in
       let written : vectors_after (answers_from s p) p pred n z 1 ≡ replaced z (p.target * n) n (register_of (answers_from s p) p pred 0 n) = rw first in
       record {
-        report = all_read out.count;
-        vectors = back_in z ys _ (p.target * n) n out.bytes
-            ∙ sym (ap (vectors_after (answers_from s p) p pred n z) (one_destination p.rule f.asks) ∙ written);
+        report = all_read out.count e;
+        vectors = rw e (back_in z ys _ (p.target * n) n out.bytes
+            ∙ sym (ap (vectors_after (answers_from s p) p pred n z) (one_destination p.rule f.asks) ∙ written));
       }
 
   -- LD1R to LD4R: each element has a destination, and is read
   pub each_filled : (z : List ℕ) (n : ℕ) → ReplicatesIn p s n → {z' : List ℕ} → ReplicatesOut p s n z z'
-      → Targeted (answers_from s p) p pred n z (record { count = p.elements; answer = Ran }) z'
+      → {r : StepResult} → r ≡ record { count = p.elements; answer = Ran } → Targeted (answers_from s p) p pred n z r z'
   unfolding wanted destinations_in
-  each_filled z n f out =
+  each_filled z n f out e =
       record {
-        report = all_read (sym (many_all (wanted p pred) p.elements (λ _. rw f.always)));
-        vectors = out pred ∙ sym (ap (λ (q : Rule). vectors_after (answers_from s p) p pred n z (destinations_by q p.elements)) f.always);
+        report = all_read (sym (many_all (wanted p pred) p.elements (λ _. rw f.always))) e;
+        vectors = rw e (out pred ∙ sym (ap (λ (q : Rule). vectors_after (answers_from s p) p pred n z (destinations_by q p.elements)) f.always));
       }
 
 -- so it is over any answers that the stretch gives too

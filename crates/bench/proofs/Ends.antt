@@ -1,12 +1,12 @@
 -- How an accepted set-up ends, from what the functions of the step found: at the stack rule, at a bad byte, or with the load done.
-use Rattle.std.proofs.Common.{if◌then◌else◌, ◌≡◌, ℕ, ◌*◌, ◌/◌, ◌≤◌, Bool, true, false, ◌&&◌, eqb, List, Option, None, Some, Ok, Err, length, sym, refl, ap, ◌∙◌, arith, length-drop, length-take, ne_eqb}
+use Rattle.std.proofs.Common.{if◌then◌else◌, ◌≡◌, ℕ, ◌*◌, ◌/◌, ◌≤◌, Bool, true, false, ◌&&◌, eqb, List, Option, None, Some, Ok, Err, length, sym, refl, ap, ◌∙◌, arith, length-drop, length-take, eq-eqb, ne_eqb}
 use Rattle.ground.proofs.Laws.{never}
 use Rattle.memory.specs.Areas.{Areas, are_areas_accepted}
 use Rattle.steps.proofs.Numbers.{fault_number_lem}
 use Rattle.steps.specs.Benches.{Lent, Bench, InTypes, areas_in, are_files_accepted, is_accepted}
 use Rattle.steps.specs.Answers.{number_of, report_of}
 use Rattle.steps.specs.Lanes.{predicate_of, governing_bytes}
-use Rattle.steps.specs.Outcomes.{answers_in, scalars_after, bench_after, outcome_of}
+use Rattle.steps.specs.Outcomes.{answers_in, answers_of, scalars_after, bench_after, outcome_of}
 use Rattle.steps.specs.Step.{Planned, stack_fails, planned_of, prepared_of, step_of, StepPromise}
 use Rattle.words.specs.Ranges.{Governed}
 use Rattle.steps.specs.Inside.{GovernedIn}
@@ -53,21 +53,31 @@ module _ (l : Lent) (b : Bench) (p : Plan) (pred : List ℕ) (e : pred ≡ gover
   unfolding EndsAs stacked
   at_stack_lem h = rw (rw e at h) refl
 
-  module _ (h : stack_fails b.scalars p pred ≡ false) (m : Areas) (lent : m ≡ areas_in l b) (r : StepResult) (z : List ℕ)
-      (t : Targeted (answers_in m p) p pred (l.settings.vl / 8) b.vectors r z) where
-    pub faulted : (r.answer ≡ Ran → ⊥) → EndsAs (stacked p) l b r (bench_of z b.scalars b.ram)
+  module _ (h : stack_fails b.scalars p pred ≡ false) (r : StepResult) (z : List ℕ)
+      (t : Targeted (answers_of l b p) p pred (l.settings.vl / 8) b.vectors r z) where
+    pub faulted : (number_of r.answer ≡ 0 → ⊥) → EndsAs (stacked p) l b r (bench_of z b.scalars b.ram)
     unfolding EndsAs stacked outcome_of
     faulted ne =
-        let other = not_ran r.answer ne in
-        let kept : z ≡ b.vectors = rw (ne_eqb _ 0 other) at t.vectors in
-        rw (kept, rw e at h) (rw (← (rw (e, lent) at t.report), ne_eqb _ 0 other))
+        let kept : z ≡ b.vectors = rw (ne_eqb _ 0 ne) at t.vectors in
+        rw (kept, rw e at h) (rw (← (rw e at t.report), ne_eqb _ 0 ne))
 
-    pub ran : r.answer ≡ Ran → (x : List ℕ) → x ≡ scalars_after p b.scalars → EndsAs (stacked p) l b r (bench_of z x b.ram)
+    pub ran : number_of r.answer ≡ 0 → (x : List ℕ) → x ≡ scalars_after p b.scalars → EndsAs (stacked p) l b r (bench_of z x b.ram)
     unfolding EndsAs stacked outcome_of bench_after
     ran q x written =
-        let none : eqb (number_of r.answer) 0 ≡ true = rw q refl in
-        let filled = rw none at t.vectors in
-        rw (rw e at h) (rw (← (rw (e, lent) at t.report), none, filled, written, e, lent))
+        let filled = rw (eq-eqb _ 0 q) at t.vectors in
+        rw (rw e at h) (rw (← (rw e at t.report), eq-eqb _ 0 q, filled, written, e))
+
+  -- .. in areas that were made of what is lent, and of an answer that is matched and not numbered
+  module _ (h : stack_fails b.scalars p pred ≡ false) (m : Areas) (lent : m ≡ areas_in l b) (r : StepResult) (z : List ℕ)
+      (t : Targeted (answers_in m p) p pred (l.settings.vl / 8) b.vectors r z) where
+    in_lent : Targeted (answers_of l b p) p pred (l.settings.vl / 8) b.vectors r z
+    in_lent = rw lent at t
+
+    pub faulted_in : (r.answer ≡ Ran → ⊥) → EndsAs (stacked p) l b r (bench_of z b.scalars b.ram)
+    faulted_in ne = faulted h r z in_lent (not_ran r.answer ne)
+
+    pub ran_in : r.answer ≡ Ran → (x : List ℕ) → x ≡ scalars_after p b.scalars → EndsAs (stacked p) l b r (bench_of z x b.ram)
+    ran_in q = ran h r z in_lent (rw q refl)
 
 either : (t : Bool) (b : Bench) → b ≡ (if t then b else b)
 either true b = refl

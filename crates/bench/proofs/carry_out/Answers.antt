@@ -2,7 +2,7 @@
 use Rattle.std.proofs.Common.{◌≡◌, ℕ, ◌*◌, ◌/◌, ◌%◌, ◌≤◌, List, length, sym, subst, arith}
 use Rattle.steps.specs.Lanes.{governing_bytes}
 use Rattle.steps.specs.Said.{LengthAllowed}
-use Rattle.bench.proofs.Ends.{decided, at_stack_lem, faulted, ran}
+use Rattle.bench.proofs.Ends.{decided, at_stack_lem, faulted_in, ran_in}
 use Rattle.bench.proofs.carry_out.Goals as goal
 use Rattle.bench.proofs.carry_out.Goals.{in-Ran, in_default}
 
@@ -36,7 +36,7 @@ pub returns-then-matches : goal.returns-then-matches
 unfolding governing_bytes
 returns-then-matches c =
     elim c.match-matches.branch [
-      | in-Ran w ↦ ran _ _ _ _ c.governing_bytes.ensures (sym c.if-stack_fails.ensures) _ c.areas.ensures.lent _ _ c.run-found.ensures w.in-Ran.is _ c.scalars.ensures
+      | in-Ran w ↦ ran_in _ _ _ _ c.governing_bytes.ensures (sym c.if-stack_fails.ensures) _ c.areas.ensures.lent _ _ c.run-found.ensures w.in-Ran.is _ c.scalars.ensures
       | in_default w ↦ absurd cc
     ]
 
@@ -45,5 +45,5 @@ unfolding governing_bytes
 returns-else-matches c =
     elim c.match-matches.branch [
       | in-Ran w ↦ absurd cc
-      | in_default w ↦ faulted _ _ _ _ c.governing_bytes.ensures (sym c.if-stack_fails.ensures) _ c.areas.ensures.lent _ _ c.run-found.ensures w.in_default.not-Ran
+      | in_default w ↦ faulted_in _ _ _ _ c.governing_bytes.ensures (sym c.if-stack_fails.ensures) _ c.areas.ensures.lent _ _ c.run-found.ensures w.in_default.not-Ran
     ]

@@ -1,5 +1,5 @@
 -- LD1R to LD4R fill a destination for each element, every other load its one destination.
-use Rattle.std.proofs.Common.{◌+◌, ◌*◌, ◌≤◌, length, sym}
+use Rattle.std.proofs.Common.{◌+◌, ◌*◌, ◌≤◌, length, sym, refl}
 use Rattle.ground.proofs.Fills.{part_length}
 use Rattle.bench.specs.Inside.Quick.{FillIn, ReplicatesIn}
 use Rattle.bench.proofs.Small.{slot}
@@ -12,11 +12,11 @@ returns-then-always c =
     let fit = c.args.lanes.fits in
     let all : ReplicatesIn c.args.lanes.plan c.args.stretch.now c.args.lanes.register_bytes =
     record { sound = fit.sound; shaped = fit.shaped; most = fit.most; always = is_always_lem _ (sym c.if-always.ensures); long = c.requires.0 } in
-    each_filled _ _ _ c.args.z.now _ all c.replicates.ensures
+    each_filled _ _ _ c.args.z.now _ all c.replicates.ensures refl
 
 pub returns : goal.returns
 returns c =
     let p = c.args.lanes.plan in
     let fits : p.target * c.args.lanes.register_bytes + c.args.lanes.register_bytes ≤ length c.args.z.now = rw c.requires.1 (slot p.target 32 c.args.lanes.register_bytes c.args.lanes.fits.sound.target) in
     let one : FillIn p c.args.lanes.pred.now c.args.stretch.now c.args.lanes.register_bytes = record { fit = c.args.lanes.fits; asks = sym c.if-always.ensures; long = c.requires.0 } in
-    one_filled _ _ _ c.args.z.now c.args.lanes.register_bytes one (rw (part_length c.args.z.now (p.target * c.args.lanes.register_bytes) c.args.lanes.register_bytes fits) at c.fill-count.ensures)
+    one_filled _ _ _ c.args.z.now c.args.lanes.register_bytes one (rw (part_length c.args.z.now (p.target * c.args.lanes.register_bytes) c.args.lanes.register_bytes fits) at c.fill-count.ensures) refl
