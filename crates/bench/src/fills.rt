@@ -3,7 +3,6 @@ ghost use Rattle.std.specs.Prelude.{◌≡◌, ◌+◌, ◌-◌, ◌*◌, ◌%�
 ghost use Rattle.ground.specs.Sizes.{bytes_of};
 ghost use Rattle.memory.specs.Addresses.{wrap};
 ghost use Rattle.steps.specs.Outcomes.{value_of, extended, base_after, scalars_after};
-ghost use Rattle.steps.specs.Inside.{PlanInRange};
 ghost use Rattle.bench.specs.Inside.{Zeroed};
 ghost use Rattle.bench.specs.Inside.Loads.{answers_to, lane_by, register_by};
 
@@ -92,11 +91,10 @@ fn base(x: &mut [u64], plan: Plan)
     }
 }
 
-// Writes the base back and moves PC on. The base is never PC, which the plan alone says, without its lanes.
+// Writes the base back and moves PC on. The base is X0 to X30 or SP, and so never PC.
 #[tactic(auto, unfolding(steps::specs::Outcomes::scalars_after))]
 pub(crate) fn scalars(x: &mut [u64], plan: Plan)
-    requires plan_in_range { PlanInRange plan }
-    requires x_len { length x.old ≡ 33 }
+    requires { (plan.base < 32) × (length x.old ≡ 33) }
     ensures { x.new ≡ scalars_after plan x.old }
 {
     let pc = x[32].wrapping_add(4);

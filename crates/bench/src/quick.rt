@@ -2,7 +2,6 @@
 // counted, in one go.
 ghost use Rattle.std.specs.Prelude.{◌≡◌, ◌*◌, ◌<◌, ◌≤◌, length};
 ghost use Rattle.ground.specs.Sizes.{bytes_of};
-ghost use Rattle.steps.specs.Inside.{PlanInRange};
 ghost use Rattle.bench.specs.Inside.Quick.{Copied, is_always, stride_of, count_of, own_in, FillIn, FillOut, ReplicateIn, ReplicateOut};
 
 use crate::chunks::{self, Widening};
@@ -46,9 +45,9 @@ struct Own {
     stride: usize,
 }
 
-// By the rule, of the plan alone, without its lanes. LD1R to LD4R, which `replicate` fills, ask for none of it.
+// By the rule. LD1R to LD4R, which `replicate` fills, ask for none of it.
 fn own_of(plan: Plan) -> Own
-    requires { PlanInRange plan }
+    requires { (plan.elements ≤ 256) × (plan.filled ≤ 256) }
     ensures { (result.chunks ≡ own_in plan) × (result.stride ≡ stride_of plan.rule (bytes_of plan.size)) }
 {
     let width = plan.lane.bytes();

@@ -5,7 +5,6 @@ ghost use Rattle.memory.specs.Areas.{areas_of};
 ghost use Rattle.memory.specs.Said.{AreasAccepted};
 ghost use Rattle.steps.specs.Lanes.{destinations_in, destination_of};
 ghost use Rattle.ground.specs.Sizes.{bytes_of};
-ghost use Rattle.steps.specs.Inside.{PlanInRange};
 ghost use Rattle.bench.specs.Inside.Loads.{survey_by, register_by, vectors_by, TargetedBy};
 ghost use Rattle.bench.specs.Inside.Quick.{answers_from, ReplicateIn, ReplicatesIn, DestinationOut, ReplicatesOut};
 ghost use Rattle.bench.specs.Inside.Roads.{Targeted, RanWith};
@@ -15,10 +14,10 @@ use crate::reads::Load;
 use crate::{fills, quick, stretches};
 use steps::{Answer, Plan, Rule, StepResult};
 
-// The register that destination j is: from the target on, 31 followed by 0. Both roads ask for it, by the plan alone.
+// The register that destination j is: from the target on, 31 followed by 0. Both roads ask for it.
 #[tactic(auto, unfolding(steps::specs::Lanes::destination_of))]
 fn destination(plan: Plan, j: u64) -> usize
-    requires { (PlanInRange plan) × (j ≤ 256) }
+    requires { j ≤ 256 }
     ensures is { result ≡ destination_of plan j }
     ensures in_file { result < 32 }
 {

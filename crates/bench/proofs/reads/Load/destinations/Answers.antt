@@ -10,9 +10,8 @@ loop-j-init c = refl
 
 pub destination-requires : goal.destination-requires
 destination-requires c =
-    let sound = c.args.self.lanes.fits.sound in
-    let few = destinations_few c.args.self.lanes.plan sound in
-    (sound, omega arith)
+    let few = destinations_few c.args.self.lanes.plan c.args.self.lanes.fits.sound in
+    omega arith
 
 pub loop-j-preserved : goal.loop-j-preserved
 loop-j-preserved c =
