@@ -14,6 +14,7 @@ use Rattle.steps.specs.declared.Rule.{Rule}
 use Rattle.steps.specs.declared.Rule.TheVariants.{Always, LaneBit, ElementBit}
 use Rattle.steps.proofs.Walks.{many}
 use Rattle.plans.specs.Inside.{ShapedAs, Shaped}
+use Rattle.bench.specs.declared.actives.Lanes.{Lanes}
 use Rattle.bench.specs.declared.chunks.Widening.{Widening}
 use Rattle.bench.specs.Inside.Quick.{ChunksOut, is_always, own_of, stride_of, count_of, own_in, FillIn, OwnOut}
 use Rattle.bench.proofs.Small.{slot, chunk_whole}
@@ -91,6 +92,11 @@ module _ (p : Plan) (pred : List ℕ) (some : 0 < p.elements) where
       go Always rule a h = never refl a
       go LaneBit rule a h = rw (chunk_lanes p.lane p.filled h.2) (lane_told h.0 rule h.1)
       go ElementBit rule a h = rw (chunk_lanes p.lane p.elements h.1) (element_told rule h.0)
+
+-- what a fill needs, of lanes beside a stretch that has every element
+pub fill_in : (l : Lanes) {s : List ℕ} {n : ℕ} → is_always l.plan.rule ≡ false → (length s ≡ l.plan.elements * bytes_of l.plan.size) × (n ≡ l.register_bytes)
+    → FillIn l.plan l.pred.now s n
+fill_in l asks e = record { fit = rw e.1 l.fits; asks = asks; long = e.0 }
 
 -- ---- of a fill: what they need, and how many there are
 module _ {p : Plan} {pred s : List ℕ} {n : ℕ} (f : FillIn p pred s n) where

@@ -1,9 +1,10 @@
 // The quick road: a load whose elements all lie together in a stretch of memory. The destination is filled from it and the reads are
 // counted, in one go.
-ghost use Rattle.std.specs.Prelude.{◌≡◌, ◌*◌, ◌<◌, ◌≤◌, length};
+ghost use Rattle.std.specs.Prelude.{◌≡◌, ◌*◌, ◌<◌, ◌≤◌, false, length};
 ghost use Rattle.ground.specs.Sizes.{bytes_of};
-ghost use Rattle.bench.specs.Inside.Quick.{Copied, is_always, stride_of, count_of, own_in, FillIn, FillOut, ReplicateIn, ReplicateOut};
+ghost use Rattle.bench.specs.Inside.Quick.{Copied, is_always, stride_of, count_of, own_in, FillOut, ReplicateIn, ReplicateOut};
 
+use crate::actives::Lanes;
 use crate::chunks::{self, Widening};
 use crate::fills;
 use steps::{Plan, Rule};
@@ -98,10 +99,12 @@ pub(crate) fn replicate(
 
 // Fills the one destination of any other load from such a stretch, and counts the reads: its own chunks, then their copies, then zeros.
 // Nothing can fault.
-pub(crate) fn fill(dst: &mut [u8], stretch: &[u8], pred: &[u8], plan: Plan) -> u64
-    requires { FillIn plan pred.now stretch.now (length dst.old) }
-    ensures { FillOut plan pred.now stretch.now (length dst.old) dst.new result }
+pub(crate) fn fill(dst: &mut [u8], stretch: &[u8], lanes: Lanes) -> u64
+    requires asks { is_always lanes.plan.rule ≡ false }
+    requires lengths { (length stretch.now ≡ lanes.plan.elements * bytes_of lanes.plan.size) × (length dst.old ≡ lanes.register_bytes) }
+    ensures { FillOut lanes.entry.plan lanes.entry.pred.now stretch.now (length dst.old) dst.new result }
 {
+    let plan = lanes.plan;
     let own = own_of(plan);
     let widening = Widening {
         size: plan.size,
@@ -109,7 +112,7 @@ pub(crate) fn fill(dst: &mut [u8], stretch: &[u8], pred: &[u8], plan: Plan) -> u
         signed: plan.signed,
         stride: own.stride,
     };
-    let lanes_on = widening.fill(dst, stretch, &pred[..own.chunks]);
+    let lanes_on = widening.fill(dst, stretch, &lanes.pred[..own.chunks]);
     let end = (plan.filled * plan.lane.bytes()) as usize;
     blocks(dst, own.chunks * 8, end);
     fills::zeros(dst, end);

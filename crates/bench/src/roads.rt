@@ -111,7 +111,8 @@ fn replicate_at(
     quick::replicate(&mut z[at..at + n], stretch, plan, j, element_bytes, end);
 }
 
-// The destinations of LD1R to LD4R. The first has a call of its own: LD1R has no other.
+// The destinations of LD1R to LD4R. No predicate governs these loads, so they ask for the plan and not for its `Lanes`. The first destination has
+// a call of its own: LD1R has no other.
 fn replicates(z: &mut [u8], n: usize, stretch: &[u8], plan: Plan)
     requires { (ReplicatesIn plan stretch.now n) × (length z.old ≡ 32 * n) }
     ensures { ReplicatesOut plan stretch.now n z.old z.new }
@@ -139,7 +140,7 @@ fn from_stretch(z: &mut [u8], stretch: &[u8], lanes: Lanes) -> StepResult
         };
     }
     let at = plan.target as usize * n;
-    let count = quick::fill(&mut z[at..at + n], stretch, lanes.pred, plan);
+    let count = quick::fill(&mut z[at..at + n], stretch, lanes);
     StepResult {
         count,
         answer: Answer::Ran,
