@@ -90,7 +90,8 @@ impl Widening {
         lanes_on
     }
 
-    // The same, under the same contract, which names what is lent and so is no fact of the struct: with a call for each sign ..
+    // The contract stands with each of the three: what is copied holds no dst, of which `room` is, and `inside` would be shown anew at each constant.
+    // The same, with a call for each sign ..
     #[inline(always)]
     fn by_sign(self, dst: &mut [u8], stretch: &[u8], bits: &[u8]) -> u64
         requires { ChunksIn self stretch.now bits.now (length dst.old) }
