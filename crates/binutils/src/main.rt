@@ -114,7 +114,8 @@ fn compare(rt: &impl Print, number: u64, line: &[u8], table: &mut Table) -> Resu
     Ok(())
 }
 
-// Reads on behind what is read already, as many bytes as a line may have, and compares the line that they open with.
+// Reads on behind what is read already, as many bytes as a line may have, and compares the line that they open with. `take` and `read_to_end` are
+// std's; the programs that read so share no limit and no error.
 fn one_line(
     input: &mut impl Read,
     output: &impl Print,

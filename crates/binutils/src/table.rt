@@ -27,26 +27,51 @@ pub(crate) enum Row {
     Undefined,
 }
 
-// What the rows are called.
-const NAMES: [&str; ROWS] = [
-    "LD1R no offset",
-    "LD1R post-index",
-    "LD2R no offset",
-    "LD2R post-index",
-    "LD3R no offset",
-    "LD3R post-index",
-    "LD4R no offset",
-    "LD4R post-index",
-    "LD1R by element",
-    "LD1 immediate",
-    "LD1 scalar",
-    "LD1RQ immediate",
-    "LD1RQ scalar",
-    "LD1RO immediate",
-    "LD1RO scalar",
-    "outside",
-    "undefined",
-];
+impl Row {
+    // In the table's order.
+    const ALL: [Row; ROWS] = [
+        Row::Ld1r,
+        Row::Ld1rPost,
+        Row::Ld2r,
+        Row::Ld2rPost,
+        Row::Ld3r,
+        Row::Ld3rPost,
+        Row::Ld4r,
+        Row::Ld4rPost,
+        Row::ByElement,
+        Row::Immediate,
+        Row::Scalar,
+        Row::BlockImmediate,
+        Row::BlockScalar,
+        Row::WideImmediate,
+        Row::WideScalar,
+        Row::Outside,
+        Row::Undefined,
+    ];
+
+    // What the row is called.
+    fn name(self) -> &'static str {
+        match self {
+            Row::Ld1r => "LD1R no offset",
+            Row::Ld1rPost => "LD1R post-index",
+            Row::Ld2r => "LD2R no offset",
+            Row::Ld2rPost => "LD2R post-index",
+            Row::Ld3r => "LD3R no offset",
+            Row::Ld3rPost => "LD3R post-index",
+            Row::Ld4r => "LD4R no offset",
+            Row::Ld4rPost => "LD4R post-index",
+            Row::ByElement => "LD1R by element",
+            Row::Immediate => "LD1 immediate",
+            Row::Scalar => "LD1 scalar",
+            Row::BlockImmediate => "LD1RQ immediate",
+            Row::BlockScalar => "LD1RQ scalar",
+            Row::WideImmediate => "LD1RO immediate",
+            Row::WideScalar => "LD1RO scalar",
+            Row::Outside => "outside",
+            Row::Undefined => "undefined",
+        }
+    }
+}
 
 // The words of each row, and all words.
 #[derive(Clone, Copy)]
@@ -71,8 +96,8 @@ impl Table {
 
     pub(crate) fn write(&self, rt: &impl Print) -> io::Result<()> {
         println!(rt; "family           agree")?;
-        for (name, share) in NAMES.iter().zip(&self.rows) {
-            println!(rt; "{name:<17}{share}")?;
+        for row in Row::ALL {
+            println!(rt; "{:<17}{}", row.name(), self.rows[row as usize])?;
         }
         let words = self.words;
         println!(rt; "\n{words} words agree with binutils 2.40")
