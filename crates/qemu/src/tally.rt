@@ -4,6 +4,13 @@ use shares::Share;
 use std::io;
 use std::io::Print;
 
+// A row of the table: the answer, and the steps that were recorded with it.
+#[derive(Clone, Copy)]
+struct Row {
+    answer: &'static str,
+    share: Share,
+}
+
 // The eight answers, by number.
 const ANSWERS: [&str; 8] = [
     "0 ran",
@@ -16,17 +23,20 @@ const ANSWERS: [&str; 8] = [
     "7 denied",
 ];
 
-// The steps that were recorded with each answer, and all steps.
+// The rows by the number of the answer, and all steps.
 #[derive(Clone, Copy)]
 pub struct Tally {
-    by_answer: [Share; 8],
+    by_answer: [Row; 8],
     steps: Share,
 }
 
 impl Tally {
     pub(crate) fn new() -> Tally {
         Tally {
-            by_answer: [Share::NONE; 8],
+            by_answer: ANSWERS.map(|answer| Row {
+                answer,
+                share: Share::NONE,
+            }),
             steps: Share::NONE,
         }
     }
@@ -34,7 +44,7 @@ impl Tally {
     // One step more, told where it differs. A recorded answer above 7 has no row.
     pub(crate) fn count(&mut self, rt: &impl Print, number: u64, step: Step) {
         if let Some(row) = self.by_answer.get_mut(step.answer as usize) {
-            row.count(step.same);
+            row.share.count(step.same);
         }
         self.steps.count(step.same);
         if !step.same {
@@ -46,7 +56,7 @@ impl Tally {
     // The table by recorded answer, and all.
     pub(crate) fn write(&self, rt: &impl Print) -> io::Result<()> {
         println!(rt; "recorded answer  agree")?;
-        for (answer, share) in ANSWERS.iter().zip(&self.by_answer) {
+        for Row { answer, share } in &self.by_answer {
             println!(rt; "{answer:<17}{share}")?;
         }
         let steps = self.steps;

@@ -41,7 +41,7 @@ pub(crate) fn stepped(row: Row, flash: &[u8], ram: &[u8]) -> ArrayString<128> {
     let ram = ram.get(..row.ram).unwrap_or(ram);
     let before = setups::file(row.vl);
     let mut file = before;
-    let z = &mut file[..(row.vl as usize / 8 * 32).min(8704)];
+    let z = &mut file[..setups::file_bytes(row.vl)];
     let x_before = setups::scalars(row.x0);
     let mut x = x_before;
     let result = lent(row, z, &mut x, flash, ram);

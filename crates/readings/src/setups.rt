@@ -1,4 +1,6 @@
 // What a row's bench is made of: every byte and number of it non-zero, so that what becomes zero shows, and what stays as it was.
+ghost use Rattle.std.specs.Prelude.{◌≤◌};
+
 use memory::{Address, PAGE_BYTES};
 
 // Byte k of an area or file: two digits of its number by threes, and a tag. No eight bytes in a row lie at two places, and
@@ -53,10 +55,16 @@ pub(crate) fn ram_start(n: usize) -> Address {
     Address((size as u64).wrapping_neg())
 }
 
+// How many bytes of the vector file a vector length asks.
+pub(crate) fn file_bytes(vl: u32) -> usize
+    ensures { result ≤ 8704 }
+{
+    (32 * (vl as usize / 8)).min(8704)
+}
+
 // The vector file, filled as far as the vector length asks.
 pub(crate) fn file(vl: u32) -> [u8; 8704] {
     let mut z = [0; 8704];
-    let n = (32 * (vl as usize / 8)).min(8704);
-    fill(&mut z[..n], 0xf3);
+    fill(&mut z[..file_bytes(vl)], 0xf3);
     z
 }
