@@ -4,7 +4,7 @@ use Rattle.ground.specs.Lists.{listed, bytes_at}
 use Rattle.ground.proofs.Laws.{listed_cong, little_cong}
 use Rattle.steps.specs.Benches.{Bench, lent_of}
 use Rattle.steps.specs.Benches as S
-use Rattle.cases.specs.Parts.{part_at, vectors_at, scalars_at, ram_at, case_bytes, scalars_in, vectors_in, lent_in, bench_in, areas_in}
+use Rattle.cases.specs.Parts.{part_at, vectors_at, predicates_at, scalars_at, flash_at, flash_rights_at, ram_at, ram_rights_at, case_bytes, scalars_in, vectors_in, lent_in, bench_in, areas_in}
 use Rattle.cases.specs.Inside.{bench_by, areas_by}
 use Rattle.cases.specs.declared.heads.Case.{Case}
 use Rattle.cases.specs.declared.parts.Parts.{Parts}
@@ -23,6 +23,27 @@ front f n h = h ∙ ap (take n) f.rest
 
 pub back : {s r p : List ℕ} {at : ℕ} → From s at r → (n : ℕ) → p ≡ drop n r → From s (at + n) p
 back {s} {r} {p} {at} f n h = record { rest = h ∙ ap (drop n) f.rest ∙ drop-drop n at s }
+
+-- the rests that the parts of a case are cut from, each behind the part before it
+pub record Rests (s : List ℕ) (c : Case) (v p x f fr m mr : List ℕ) : Type 0 where
+  pub vectors : From s (vectors_at c) v
+  pub predicates : From s (predicates_at c) p
+  pub scalars : From s (scalars_at c) x
+  pub flash : From s (flash_at c) f
+  pub flash_rights : From s (flash_rights_at c) fr
+  pub ram : From s (ram_at c) m
+  pub ram_rights : From s (ram_rights_at c) mr
+
+pub rests : {s v p x f fr m mr : List ℕ} (c : Case) → v ≡ drop (vectors_at c) s → p ≡ drop c.vectors v → x ≡ drop c.predicates p → f ≡ drop (8 * c.scalars) x
+    → fr ≡ drop c.flash f → m ≡ drop c.flash_rights fr → mr ≡ drop c.ram m → Rests s c v p x f fr m mr
+rests c v p x f fr m mr =
+    let vectors = start (vectors_at c) v in
+    let predicates = back vectors c.vectors p in
+    let scalars = back predicates c.predicates x in
+    let flash = back scalars (8 * c.scalars) f in
+    let flash_rights = back flash c.flash fr in
+    let ram = back flash_rights c.flash_rights m in
+    record { vectors = vectors; predicates = predicates; scalars = scalars; flash = flash; flash_rights = flash_rights; ram = ram; ram_rights = back ram c.ram mr }
 
 -- the numbers of a part are those that lie there
 numbers_cut : (s : List ℕ) (at n : ℕ) → at + 8 * n ≤ length s

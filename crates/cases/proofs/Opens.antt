@@ -14,7 +14,7 @@ use Rattle.cases.specs.Parts.{kind_in, head_bytes, case_bytes}
 use Rattle.cases.specs.Heads.{flags_in, kind_of, strange_kind, question_of, head_of, marked_of, opened_of}
 use Rattle.cases.specs.Outcomes.{outcome_length}
 use Rattle.cases.specs.Answers.{After, outcome_in, on_case, on_opened, after_case}
-use Rattle.cases.specs.Inside.{asked_of}
+use Rattle.cases.specs.Inside.{question_here}
 use Rattle.cases.specs.declared.heads.Question.{Question}
 use Rattle.cases.specs.declared.heads.Case.{Case}
 use Rattle.cases.specs.declared.heads.Refusal.{Refusal}
@@ -39,7 +39,7 @@ pub record Read (s : List ℕ) (q : Question) : Type 0 where
   pub same : q ≡ question_of s
   pub kind : kind_in q ≡ kind_of (flags_in s)
 
-pub read_asked : (s : List ℕ) (q : Question) → Ok q ≡ asked_of s → Read s q
+pub read_asked : (s : List ℕ) (q : Question) → Ok q ≡ question_here s → Read s q
 read_asked s q =
     if_cases (λ (r : Result Question Refusal). Ok q ≡ r → Read s q) (strange_kind (kind_of (flags_in s))) _ _ (λ _ e. absurd (cc))
     (λ h e. let same : q ≡ question_of s = cc in record { here = h; same = same; kind = ap kind_in same ∙ kind_asked s h })

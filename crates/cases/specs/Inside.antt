@@ -20,8 +20,8 @@ use Rattle.cases.specs.declared.parts.Parts.{Parts}
 use Rattle.cases.specs.declared.outcomes.Told.{Told}
 
 -- what is asked, if its kind is here
-abbrev pub asked_of : List ℕ → Result Question Refusal
-asked_of s = if strange_kind (kind_of (flags_in s)) then Err Kind else Ok (question_of s)
+abbrev pub question_here : List ℕ → Result Question Refusal
+question_here s = if strange_kind (kind_of (flags_in s)) then Err Kind else Ok (question_of s)
 
 -- no part is over its limit
 pub record Bounds (c : Case) : Type 0 where

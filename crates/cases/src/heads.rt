@@ -2,11 +2,16 @@
 ghost use Rattle.std.specs.Prelude.{◌≡◌, ◌≤◌};
 ghost use Rattle.cases.specs.Parts.{kind_in, carried, head_bytes, case_bytes};
 ghost use Rattle.cases.specs.Heads.{strange_flag, numbers_of, question_of, head_of, limited, marked_of, HeadPromise};
-ghost use Rattle.cases.specs.Inside.{Bounds, asked_of};
+ghost use Rattle.cases.specs.Inside.{Bounds, question_here};
 
 use ground::number;
 use memory::{Address, Map};
 use steps::Settings;
+
+// How many bytes the head of a step has, and the longer head of any other question.
+pub const HEAD: usize = 96;
+
+pub const LONGER_HEAD: usize = 136;
 
 // KKJ1, lowest byte first.
 const MAGIC: u64 = 0x314A_4B4B;
@@ -85,8 +90,8 @@ impl Question {
         ensures most { result ≤ 136 }
     {
         match self {
-            Question::Step => 96,
-            Question::Address(_) | Question::Lane(_) => 136,
+            Question::Step => HEAD,
+            Question::Address(_) | Question::Lane(_) => LONGER_HEAD,
         }
     }
 
@@ -138,7 +143,7 @@ fn read_numbers(s: &[u8]) -> Numbers
 // What is asked, if its kind means something here. A step has no numbers: what lies behind its lengths are its parts.
 #[tactic(auto, unfolding(crate::specs::Heads::strange_kind, crate::specs::Heads::question_of))]
 fn read_question(s: &[u8]) -> Result<Question, Refusal>
-    ensures { result ≡ asked_of s.now }
+    ensures { result ≡ question_here s.now }
 {
     match number(s, 8, 4) / 256 % 256 {
         0 => Ok(Question::Step),
@@ -233,7 +238,7 @@ pub fn head(s: &[u8]) -> Result<Opened, Refusal>
     if number(s, 0, 4) != MAGIC {
         return Err(Refusal::Magic);
     }
-    if s.len() < 96 {
+    if s.len() < HEAD {
         return Err(Refusal::Ends);
     }
     marked(s)

@@ -12,10 +12,15 @@ ghost use Rattle.cases.specs.Outcomes.{outcome_length};
 ghost use Rattle.cases.specs.Inside.{Bounds};
 ghost use Rattle.cases.specs.Answers.{outcome_in, AnswerPromise};
 
-pub use heads::{Case, Numbers, Opened, Part, Question, Refusal, head};
+pub use heads::{Case, HEAD, LONGER_HEAD, Numbers, Opened, Part, Question, Refusal, head};
 use outcomes::put_window;
 use parts::{Parts, asked_step};
 use windows::{asked_address, asked_lane};
+
+// How many bytes the longest case and the longest outcome have: `longest_case` of proofs/Limits.antt holds both.
+pub const LONGEST_CASE: usize = 398600;
+
+pub const LONGEST_OUTCOME: usize = 66585;
 
 // How a case was answered: so many bytes taken, and so many of its outcome written.
 #[derive(Clone, Copy)]

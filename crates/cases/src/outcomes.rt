@@ -6,7 +6,8 @@ ghost use Rattle.cases.specs.Inside.{report_in};
 
 use steps::StepResult;
 
-// What is told first: the answer's number, and count, element and address.
+// What is told first: the answer's number, and count, element and address, a byte and three numbers of the format. `hosts::StepNumbers` is C's layout of
+// the same.
 #[derive(Clone, Copy, Default)]
 pub struct Told {
     pub number: u8,

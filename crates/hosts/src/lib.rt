@@ -10,7 +10,8 @@ ghost use Rattle.hosts.specs.Hosts.{settings_of, map_of, report_in, HostPromise}
 use memory::{Address, Map};
 use steps::{Lent, Settings, StepResult};
 
-// What a step tells a host: the answer's number, the count of element reads, and the element and address of a fault.
+// What a step tells a host: the answer's number, the count of element reads, and the element and address of a fault. This is C's layout, four numbers of
+// 64 bits; `Told` of crates/cases has a byte for the answer, as the format has.
 #[repr(C)]
 #[derive(Clone, Copy, Debug, PartialEq, Eq)]
 pub struct StepNumbers {

@@ -6,17 +6,15 @@ ghost use Rattle.std.specs.Prelude.{◌≤◌, length, IfOk};
 
 mod tally;
 
-use cases::Refusal;
+use cases::{LONGEST_CASE, LONGEST_OUTCOME, Refusal};
 use std::io::{Print, Read};
 use tally::Tally;
 
 // What a line on standard error begins with.
 const STEP: &[u8] = b"qemu: step ";
 
-// The longest case with its outcome, and the longest outcome: `longest_case` of crates/cases/proofs/Limits.antt.
-const LONGEST_STEP: usize = 465185;
-
-const LONGEST_OUTCOME: usize = 66585;
+// The longest case with its outcome.
+const LONGEST_STEP: usize = LONGEST_CASE + LONGEST_OUTCOME;
 
 // Why the replay ends before a step. replay has a `Stop` too, for other ends; what both tell of a refusal is `telling`'s.
 #[derive(Clone, Copy)]
@@ -56,7 +54,8 @@ fn replayed(stream: &[u8], out: &mut [u8]) -> Result<Step, Stop>
     })
 }
 
-// Reads on behind what is read already, as many bytes as a step can have, and replays the step that they open with.
+// Reads on behind what is read already, as many bytes as a step can have, and replays the step that they open with. `take` and `read_to_end` are
+// std's; the programs that read so share no limit and no error.
 fn next_step(input: &mut impl Read, stream: &mut Vec<u8>, out: &mut [u8]) -> Result<Step, Stop> {
     let missing = LONGEST_STEP.saturating_sub(stream.len());
     input
@@ -71,7 +70,8 @@ fn next_step(input: &mut impl Read, stream: &mut Vec<u8>, out: &mut [u8]) -> Res
     Ok(step)
 }
 
-// Says why the replay ends: at the end of the file by the table, and else on standard error.
+// Says why the replay ends: at the end of the file by the table, and else on standard error. How it ends is this program's own, as its `Stop` is;
+// what it writes is `telling`'s, which has no output.
 fn tell(output: &impl Print, errors: &impl Print, tally: &Tally, number: u64, stop: Stop) {
     let line = match stop {
         Stop::End => {

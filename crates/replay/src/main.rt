@@ -1,16 +1,11 @@
 // Cases in, outcomes out, in the format of docs/CASES.md: all that matters is `cases::answer`; here it is only read and written.
 #![tactic(auto)]
 
-use cases::Refusal;
+use cases::{HEAD, LONGER_HEAD, LONGEST_OUTCOME, Refusal};
 use std::io::{Print, Read};
 
 // What a line on standard error begins with.
 const CASE: &[u8] = b"replay: case ";
-
-// How many bytes the head of a step has, and the longer head of any other question.
-const HEAD: usize = 96;
-
-const LONGER_HEAD: usize = 136;
 
 // Why the run ends before a case. qemu has a `Stop` too, for other ends; what both tell of a refusal is `telling`'s.
 #[derive(Clone, Copy)]
@@ -27,7 +22,8 @@ impl From<Refusal> for Stop {
     }
 }
 
-// Reads on until so many bytes of the case are there, or the input ends.
+// Reads on until so many bytes of the case are there, or the input ends. `take` and `read_to_end` are std's; the programs that read so share no limit
+// and no error.
 fn read_on(input: &mut impl Read, case: &mut Vec<u8>, whole: usize) -> Result<(), Stop> {
     let missing = whole.saturating_sub(case.len());
     input
@@ -77,7 +73,8 @@ fn one_case(
     answered(output, case, out)
 }
 
-// Says in one line why the run ends, but for where all cases are answered.
+// Says in one line why the run ends, but for where all cases are answered. How it ends is this program's own, as its `Stop` is; what it writes is
+// `telling`'s, which has no output.
 fn tell(errors: &impl Print, number: u64, stop: Stop) {
     let line = match stop {
         Stop::End => return,
@@ -92,8 +89,7 @@ fn tell(errors: &impl Print, number: u64, stop: Stop) {
 
 fn main(rt: HostRuntime) {
     let mut case = Vec::new(rt.alloc());
-    // the longest outcome: `longest_case` of crates/cases/proofs/Limits.antt
-    let mut out = [0u8; 66585];
+    let mut out = [0u8; LONGEST_OUTCOME];
     // a proved loop has to end, and nothing says that the input does: so it counts up to a number that no run comes to
     for number in 0..u64::MAX {
         if let Err(stop) = one_case(&mut rt.stdin(), &rt, &mut case, &mut out) {
