@@ -15,7 +15,8 @@ pub enum Tell {
 }
 
 // A row: its set-up in words, what the document says, and what is set up: the word, the vector length, P0's first four bytes as a number, X0, how
-// many bytes of each area are lent, and the rights of flash's page 1. Then whether the row asks if a set-up is accepted, and what it speaks of.
+// many bytes of each area are lent, and the rights of flash's page 1. Then whether the row asks if a set-up is accepted, and what it speaks of:
+// two fields, as rows of either sort speak of `Only` and of `Blocks`.
 #[derive(Clone, Copy)]
 pub struct Row {
     pub setup: &'static str,

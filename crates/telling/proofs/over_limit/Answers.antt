@@ -1,4 +1,5 @@
 -- `over_limit` meets its contract: each part has the definition's reason.
+-- No generated proof puts the part of an arm into `codes` of the definition, so each arm does it in its line.
 use Rattle.telling.proofs.over_limit.Goals as goal
 
 pub returns-in-Vectors : goal.returns-in-Vectors

@@ -1,4 +1,5 @@
 -- `reason` meets its contract: each refusal has the definition's reason.
+-- No generated proof puts the refusal of an arm into `codes` of the definition, so each arm does it in its line.
 use Rattle.telling.proofs.reason.Goals as goal
 
 pub returns-in-Ends : goal.returns-in-Ends
