@@ -1,5 +1,5 @@
 -- A destination of LD1R to LD4R: an element over and over, and zeros above.
-use Rattle.std.proofs.Common.{◌≡◌, ℕ, zero, suc, ◌+◌, ◌*◌, ◌/◌, ◌%◌, ◌^◌, ◌<◌, ◌≤◌, ltb, ◌⊎◌, List, sym, ap, ◌∙◌, subst, ⊎_elim, mod-lt, mod-eq_of_lt, mul_assoc, suc-mul, div-lt_iff_lt-mul, mul-zero, div-add-mod', le-div_iff_mul-le, zero-add, mul-one, mul-add, arith, lit<, pow-add, ltb-false, ltb-true, le-ltb, lt-ltb}
+use Rattle.std.proofs.Common.{◌≡◌, ℕ, zero, suc, ◌+◌, ◌*◌, ◌/◌, ◌%◌, ◌^◌, ◌<◌, ◌≤◌, true, ltb, ◌⊎◌, List, length, sym, ap, ◌∙◌, subst, ⊎_elim, mod-lt, mod-eq_of_lt, mul_assoc, suc-mul, div-lt_iff_lt-mul, mul-zero, div-add-mod', le-div_iff_mul-le, zero-add, mul-one, mul-add, arith, lit<, pow-add, ltb-false, ltb-true, le-ltb, lt-ltb}
 use native.Mathlib.Nat.{zero-div, add-mul-div_right, add-mul-mod_self_right, div-div-eq-div-mul}
 use native.Mathlib.Nat.{div-eq_of_lt}
 use Rattle.ground.specs.Lists.{bytes_at}
@@ -15,7 +15,10 @@ use Rattle.steps.specs.declared.Plan.{Plan}
 use Rattle.steps.specs.declared.Rule.TheVariants.{Always}
 use Rattle.plans.specs.Inside.{ShapedAs}
 use Rattle.bench.specs.Inside.{Zeroed}
-use Rattle.bench.specs.Inside.Quick.{answers_from, Spread, ReplicateIn, ReplicateOut}
+use Rattle.bench.specs.declared.actives.Lanes.{Lanes}
+use Rattle.bench.specs.declared.quick.Replicas.{Replicas}
+use Rattle.bench.specs.Inside.Quick.{answers_from, is_always, Spread, ReplicatesIn, ReplicateIn, ReplicateOut}
+use Rattle.bench.proofs.Own.{is_always_lem}
 
 -- ---- a number over and over: k digits to the base b, each v
 abbrev pub repeated : ℕ → ℕ → ℕ → ℕ
@@ -108,3 +111,16 @@ module _ {p : Plan} {s : List ℕ} {j b end n : ℕ} (f : ReplicateIn p s j b en
       ∙ sym (own_byte pred i (rw (← e.0) l)))
       (λ t. let l = ltb-false i end t in let e = ends in zeroed.zero i l (rw chunks.size h) ∙ sym (beyond pred i (rw (← e.0) l)))
       (true_or_false (ltb i end)))
+
+-- what the fill of all destinations needs, of lanes beside a stretch that has every element; and that of one of them, of what was found
+pub replicates_in : (l : Lanes) {s : List ℕ} → is_always l.plan.rule ≡ true → length s ≡ l.plan.elements * bytes_of l.plan.size
+    → ReplicatesIn l.plan s l.register_bytes
+replicates_in l always long =
+    let f = l.fits in
+    record { sound = f.sound; shaped = f.shaped; most = f.most; always = is_always_lem _ always; long = long }
+
+pub replicate_in : (r : Replicas) {j n : ℕ} → j < r.lanes.plan.elements → n ≡ r.lanes.register_bytes
+    → ReplicateIn r.lanes.plan r.stretch.now j r.element_bytes r.end n
+replicate_in r there e =
+    let f = r.found in
+    rw e (record { all = replicates_in r.lanes f.always f.long; there = there; size = f.size; filled = f.filled })

@@ -2,7 +2,8 @@
 // counted, in one go.
 ghost use Rattle.std.specs.Prelude.{◌≡◌, ◌*◌, ◌<◌, ◌≤◌, false, length};
 ghost use Rattle.ground.specs.Sizes.{bytes_of};
-ghost use Rattle.bench.specs.Inside.Quick.{Copied, is_always, stride_of, count_of, own_in, FillOut, ReplicateIn, ReplicateOut};
+ghost use Rattle.bench.specs.Inside.Quick.{Copied, is_always, stride_of, count_of, own_in, FillOut, ReplicasFound, ReplicateOut};
+ghost use Rattle.bench.specs.Inside.Plans.{ReplicasFound-prop};
 
 use crate::actives::Lanes;
 use crate::chunks::{self, Widening};
@@ -79,22 +80,27 @@ fn counted(rule: Rule, lanes_on: u64) -> u64
     }
 }
 
-// Fills a destination of LD1R to LD4R from a stretch that has every element: chunks of its own element up to byte `end`, then zeros.
-pub(crate) fn replicate(
-    dst: &mut [u8],
-    stretch: &[u8],
-    plan: Plan,
-    j: u64,
-    element_bytes: usize,
-    end: usize,
-)
-    requires { ReplicateIn plan stretch.now j element_bytes end (length dst.old) }
-    ensures { ReplicateOut plan stretch.now j (length dst.old) dst.new }
-{
-    let from = j as usize * element_bytes;
-    let chunk = chunks::spread(stretch, from, plan.size);
-    chunks::repeat(dst, chunk, end / 8);
-    fills::zeros(dst, end);
+// LD1R to LD4R over a stretch that has every element, with the bytes of an element and of the lanes that take it, found once for all destinations.
+#[derive(Clone, Copy)]
+pub(crate) struct Replicas<'a> {
+    pub lanes: Lanes<'a>,
+    pub stretch: &'a [u8],
+    pub element_bytes: usize,
+    pub end: usize,
+    ghost found: { ReplicasFound lanes.plan stretch.now element_bytes end } by { ReplicasFound-prop lanes.plan stretch.now element_bytes end },
+}
+
+impl<'a> Replicas<'a> {
+    // Fills destination j: chunks of its own element up to byte `end`, then zeros.
+    pub(crate) fn replicate(self, dst: &mut [u8], j: u64)
+        requires { (j < self.lanes.plan.elements) × (length dst.old ≡ self.lanes.register_bytes) }
+        ensures { ReplicateOut self.entry.lanes.plan self.entry.stretch.now j (length dst.old) dst.new }
+    {
+        let from = j as usize * self.element_bytes;
+        let chunk = chunks::spread(self.stretch, from, self.lanes.plan.size);
+        chunks::repeat(dst, chunk, self.end / 8);
+        fills::zeros(dst, self.end);
+    }
 }
 
 // Fills the one destination of any other load from such a stretch, and counts the reads: its own chunks, then their copies, then zeros.

@@ -6,10 +6,11 @@ ghost use Rattle.memory.specs.Said.{AreasAccepted};
 ghost use Rattle.steps.specs.Lanes.{destinations_in, destination_of};
 ghost use Rattle.ground.specs.Sizes.{bytes_of};
 ghost use Rattle.bench.specs.Inside.Loads.{survey_by, register_by, vectors_by, TargetedBy};
-ghost use Rattle.bench.specs.Inside.Quick.{answers_from, ReplicateIn, ReplicatesIn, DestinationOut, ReplicatesOut};
+ghost use Rattle.bench.specs.Inside.Quick.{answers_from, DestinationOut, ReplicatesOut};
 ghost use Rattle.bench.specs.Inside.Roads.{Targeted, RanWith};
 
 use crate::actives::Lanes;
+use crate::quick::Replicas;
 use crate::reads::Load;
 use crate::{fills, quick, stretches};
 use steps::{Answer, Plan, Rule, StepResult};
@@ -92,48 +93,46 @@ impl<'a> Load<'a> {
     }
 }
 
-// Destination j of LD1R to LD4R, a middle part of the vector file, which is lent on to be filled from its own element in a stretch. The bytes of an
-// element and of the lanes that take it are the plan's, found once for every destination.
-#[tactic(auto, using(crate::proofs::Files::in_32))]
-fn replicate_at(
-    z: &mut [u8],
-    n: usize,
-    stretch: &[u8],
-    plan: Plan,
-    j: u64,
-    element_bytes: usize,
-    end: usize,
-)
-    requires { (ReplicateIn plan stretch.now j element_bytes end n) × (length z.old ≡ 32 * n) }
-    ensures { DestinationOut plan stretch.now j n z.old z.new }
-{
-    let at = destination(plan, j) * n;
-    quick::replicate(&mut z[at..at + n], stretch, plan, j, element_bytes, end);
-}
+impl<'a> Replicas<'a> {
+    // Destination j, a middle part of the vector file, which is lent on to be filled from its own element.
+    #[tactic(auto, using(crate::proofs::Files::in_32))]
+    fn replicate_at(self, z: &mut [u8], j: u64)
+        requires { (j < self.lanes.plan.elements) × (length z.old ≡ 32 * self.lanes.register_bytes) }
+        ensures { DestinationOut self.entry.lanes.plan self.entry.stretch.now j self.entry.lanes.register_bytes z.old z.new }
+    {
+        let n = self.lanes.register_bytes;
+        let at = destination(self.lanes.plan, j) * n;
+        self.replicate(&mut z[at..at + n], j);
+    }
 
-// The destinations of LD1R to LD4R. No predicate governs these loads, so they ask for the plan and not for its `Lanes`. The first destination has
-// a call of its own: LD1R has no other.
-fn replicates(z: &mut [u8], n: usize, stretch: &[u8], plan: Plan)
-    requires { (ReplicatesIn plan stretch.now n) × (length z.old ≡ 32 * n) }
-    ensures { ReplicatesOut plan stretch.now n z.old z.new }
-{
-    let element_bytes = plan.size.bytes() as usize;
-    let end = plan.filled as usize * element_bytes;
-    replicate_at(z, n, stretch, plan, 0, element_bytes, end);
-    for j in 1..plan.elements {
-        replicate_at(z, n, stretch, plan, j, element_bytes, end);
+    // Every destination. The first has a call of its own: LD1R has no other.
+    fn replicates(self, z: &mut [u8])
+        requires { length z.old ≡ 32 * self.lanes.register_bytes }
+        ensures { ReplicatesOut self.entry.lanes.plan self.entry.stretch.now self.entry.lanes.register_bytes z.old z.new }
+    {
+        self.replicate_at(z, 0);
+        for j in 1..self.lanes.plan.elements {
+            self.replicate_at(z, j);
+        }
     }
 }
 
 // A load whose elements all lie in a stretch. A destination is a middle part of the vector file, of 32 registers, and is lent on to be filled.
-fn from_stretch(z: &mut [u8], stretch: &[u8], lanes: Lanes) -> StepResult
+fn from_stretch<'a>(z: &mut [u8], stretch: &'a [u8], lanes: Lanes<'a>) -> StepResult
     requires { (length stretch.now ≡ lanes.plan.elements * bytes_of lanes.plan.size) × (length z.old ≡ 32 * lanes.register_bytes) }
     ensures { Targeted (answers_from stretch.now lanes.entry.plan) lanes.entry.plan lanes.entry.pred.now lanes.entry.register_bytes z.old result z.new }
 {
     let plan = lanes.plan;
     let n = lanes.register_bytes;
     if quick::always(plan.rule) {
-        replicates(z, n, stretch, plan);
+        let element_bytes = plan.size.bytes() as usize;
+        let all = Replicas {
+            lanes,
+            stretch,
+            element_bytes,
+            end: plan.filled as usize * element_bytes,
+        };
+        all.replicates(z);
         return StepResult {
             count: plan.elements,
             answer: Answer::Ran,

@@ -4,7 +4,7 @@ use Rattle.std.proofs.Common.{ap, arith}
 use mathlib.Core.Logic.{inl, inr}
 use Rattle.ground.specs.Sizes.{bytes_of}
 use Rattle.plans.specs.Inside.{ShapedAs}
-use Rattle.bench.specs.Inside.Quick.{FillFits}
+use Rattle.bench.specs.Inside.Quick.{FillFits, ReplicasFound}
 use Rattle.std.specs.Coded.{le_prop}
 use Rattle.std.proofs.Props.{props}
 use Rattle.words.specs.Ranges.{Governed}
@@ -38,6 +38,9 @@ ShapedAs-prop Always p =
     Prim.hlevel props
 ShapedAs-prop LaneBit p = Prim.hlevel props
 ShapedAs-prop ElementBit p = Prim.hlevel props
+
+pub ReplicasFound-prop : (p : Plan) (s : List ℕ) (b end : ℕ) → IsProp (ReplicasFound p s b end)
+ReplicasFound-prop p s b end = Prim.hlevel props
 
 pub FillFits-prop : (p : Plan) (pred : List ℕ) (n : ℕ) → IsProp (FillFits p pred n)
 FillFits-prop p pred n =

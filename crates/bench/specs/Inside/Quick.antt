@@ -115,6 +115,13 @@ pub record ReplicatesIn (p : Plan) (s : List ℕ) (n : ℕ) : Type 0 where
   pub always : p.rule ≡ Always
   pub long : length s ≡ p.elements * bytes_of p.size
 
+-- .. with the bytes of an element and of the lanes that take it, as they were found
+pub record ReplicasFound (p : Plan) (s : List ℕ) (b end : ℕ) : Type 0 where
+  pub always : is_always p.rule ≡ true
+  pub long : length s ≡ p.elements * bytes_of p.size
+  pub size : b ≡ bytes_of p.size
+  pub filled : end ≡ p.filled * b
+
 -- .. and that of one of them, with the bytes of an element and of the lanes that take it as they were found
 pub record ReplicateIn (p : Plan) (s : List ℕ) (j b end n : ℕ) : Type 0 where
   pub all : ReplicatesIn p s n

@@ -1,18 +1,18 @@
 -- LD1R to LD4R fill a destination for each element, every other load its one destination.
 use Rattle.std.proofs.Common.{◌+◌, ◌*◌, ◌≤◌, length, sym, refl}
 use Rattle.ground.proofs.Fills.{part_length}
-use Rattle.bench.specs.Inside.Quick.{ReplicatesIn}
 use Rattle.bench.proofs.Small.{slot}
-use Rattle.bench.proofs.Own.{fill_in, is_always_lem}
+use Rattle.bench.proofs.Own.{fill_in}
+use Rattle.bench.proofs.Repeats.{replicates_in}
 use Rattle.bench.proofs.Alike.{one_filled, each_filled}
 use Rattle.bench.proofs.roads.from_stretch.Goals as goal
 
+-- the bytes of an element and of the lanes that take it are the plan's; it is written out, so that a wrong size dies here
+pub invariant_of-all : goal.invariant_of-all
+invariant_of-all c = record { found = record { always = sym c.if-always.ensures; long = c.requires.0; size = c.bytes-element_bytes.ensures; filled = refl } }
+
 pub returns-then-always : goal.returns-then-always
-returns-then-always c =
-    let fit = c.args.lanes.fits in
-    let all : ReplicatesIn c.args.lanes.plan c.args.stretch.now c.args.lanes.register_bytes =
-    record { sound = fit.sound; shaped = fit.shaped; most = fit.most; always = is_always_lem _ (sym c.if-always.ensures); long = c.requires.0 } in
-    each_filled _ _ _ c.args.z.now _ all c.replicates.ensures refl
+returns-then-always c = each_filled _ _ _ c.args.z.now _ (replicates_in c.args.lanes (sym c.if-always.ensures) c.requires.0) c.replicates.ensures refl
 
 pub returns : goal.returns
 returns c =

@@ -1,8 +1,0 @@
--- The part that was lent on is the destination, and comes back as the fill left it.
-use Rattle.bench.proofs.Files.{in_file, destination_filled}
-use Rattle.bench.proofs.roads.replicate_at.Goals as goal
-
-pub returns : goal.returns
-returns c pred =
-    let at = c.destination.ensures.is in
-    destination_filled _ _ pred c.args.z.now _ _ _ _ (in_file c.args.plan c.args.j c.args.n at c.requires.1) (c.replicate.ensures pred) at
