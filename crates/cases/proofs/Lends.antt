@@ -15,13 +15,13 @@ pub record From (s : List ℕ) (at : ℕ) (r : List ℕ) : Type 0 where
   pub rest : r ≡ drop at s
 
 -- its first n bytes are a part, and the rest begins behind them
-pub start : {s r : List ℕ} (at : ℕ) → r ≡ drop at s → From s at r
+start : {s r : List ℕ} (at : ℕ) → r ≡ drop at s → From s at r
 start at h = record { rest = h }
 
 pub front : {s r p : List ℕ} {at : ℕ} → From s at r → (n : ℕ) → p ≡ take n r → p ≡ part_at s at n
 front f n h = h ∙ ap (take n) f.rest
 
-pub back : {s r p : List ℕ} {at : ℕ} → From s at r → (n : ℕ) → p ≡ drop n r → From s (at + n) p
+back : {s r p : List ℕ} {at : ℕ} → From s at r → (n : ℕ) → p ≡ drop n r → From s (at + n) p
 back {s} {r} {p} {at} f n h = record { rest = h ∙ ap (drop n) f.rest ∙ drop-drop n at s }
 
 -- the rests that the parts of a case are cut from, each behind the part before it

@@ -15,7 +15,6 @@ use Rattle.cases.specs.Parts.{kind_in, carried, head_bytes, case_bytes}
 use Rattle.cases.specs.Heads.{magic, flags_in, kind_of, strange_flag, strange_kind, head_of, limited, marked_of, opened_of}
 use Rattle.cases.specs.Inside.{Bounds}
 use Rattle.cases.specs.Outcomes.{outcome_length}
-use Rattle.cases.specs.declared.TheConstants.{LONGEST_CASE, LONGEST_OUTCOME}
 use Rattle.cases.specs.declared.heads.Case.{Case}
 use Rattle.cases.specs.declared.heads.Part.{Part}
 use Rattle.cases.specs.declared.heads.Part.TheVariants.{Vectors, Predicates, Scalars, Flash, FlashRights, Ram, RamRights, Blob}
@@ -150,10 +149,6 @@ module _ (s : List ℕ) (o : Opened) (e : Ok o ≡ opened_of s) where
 
   pub opened_bounds : Bounds o.case
   opened_bounds = within.1
-
--- the code's constants are the numbers below
-longest_named : (LONGEST_CASE ≡ 398600) × (LONGEST_OUTCOME ≡ 66585)
-longest_named = (refl, refl)
 
 -- the longest case and the longest outcome
 abbrev pub Longest : Result Opened Refusal → Type 0

@@ -4,6 +4,7 @@ ghost use Rattle.cases.specs.Parts.{kind_in, carried, head_bytes, case_bytes};
 ghost use Rattle.cases.specs.Heads.{strange_flag, numbers_of, question_of, head_of, limited, marked_of, HeadPromise};
 ghost use Rattle.cases.specs.Inside.{Bounds, question_here};
 
+use crate::LONGEST_CASE;
 use ground::number;
 use memory::{Address, Map};
 use steps::Settings;
@@ -110,7 +111,8 @@ impl Case {
     // How many bytes the case has: its head and every part.
     fn whole(self) -> usize
         requires { Bounds self }
-        ensures { result ≡ case_bytes self }
+        ensures exactly { result ≡ case_bytes self }
+        ensures most { result ≤ LONGEST_CASE }
     {
         let files = self.question.head_bytes() + self.vectors + self.predicates + 8 * self.scalars;
         let areas = self.flash + self.flash_rights + self.ram + self.ram_rights;

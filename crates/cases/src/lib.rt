@@ -32,7 +32,8 @@ pub struct Answered {
 // How many bytes the outcome of a case has.
 fn outcome_bytes(case: Case) -> usize
     requires { Bounds case }
-    ensures { result ≡ outcome_length case }
+    ensures exactly { result ≡ outcome_length case }
+    ensures most { result ≤ LONGEST_OUTCOME }
 {
     match case.question {
         Question::Step => 25 + case.vectors + 8 * case.scalars,
