@@ -37,7 +37,7 @@ fn destinations_in(plan: Plan) -> u64
     }
 }
 
-// That z is 32 registers long is asked with each z: the prover covers no struct that keeps a fact beside a `&mut`.
+// That z is 32 registers long, and dst one, is asked with each: the prover covers no struct that keeps a fact beside a `&mut`.
 impl<'a> Load<'a> {
     // What a load that ran writes into destination j, element by element: where it read nothing, zeros.
     fn written(self, dst: &mut [u8], j: u64, count: u64)

@@ -91,7 +91,8 @@ fn numbers(x: &mut [u64], s: &[u8])
     }
 }
 
-// One step of what the parts lend. The vector file and the scalars are read into what is lent for them, and left there.
+// One step of what the parts lend. The vector file and the scalars are read into what is lent for them, apart as `bench::step` takes them, and left
+// there.
 fn stepped(z: &mut [u8], x: &mut [u64], word: u32, parts: Parts) -> StepResult
     requires { (length z.old ≡ length parts.vectors.now) × (8 * length x.old ≡ length parts.scalars.now) }
     ensures { let p = parts.entry in let l = lent_of p.lent in

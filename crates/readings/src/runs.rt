@@ -8,7 +8,8 @@ use memory::{Address, Map};
 use std::fmt::Write;
 use steps::{Lent, Settings, StepResult};
 
-// Lends what a row asks and steps: flash at 0, RAM at the end, every page readable but for flash's page 1 where the row says so.
+// Lends what a row asks and steps: flash at 0, RAM at the end, every page readable but for flash's page 1 where the row says so. z and x stay apart,
+// as `bench::step` takes them.
 fn lent(row: Row, z: &mut [u8], x: &mut [u64; 33], flash: &[u8], ram: &[u8]) -> StepResult {
     let predicates = setups::predicates(row.p0);
     let all = [0xff; 17];
