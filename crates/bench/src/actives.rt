@@ -53,7 +53,7 @@ impl<'a> Lanes<'a> {
         bit_is_set(self.pred, l * self.plan.lane.bytes())
     }
 
-    // Whether one of the first n lanes is active.
+    // Whether one of the first n lanes is active. Of `any` over the lanes a proof would need two lemmas more.
     fn some_active(self, n: u64) -> bool
         requires { n ≤ 256 }
         ensures { result ≡ any_below (is_active self.entry.plan self.entry.pred.now) n }

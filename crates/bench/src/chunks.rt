@@ -90,7 +90,7 @@ impl Widening {
         lanes_on
     }
 
-    // The contract stands with each of the three: what is copied holds no dst, of which `room` is, and `inside` would be shown anew at each constant.
+    // `ChunksIn` speaks of dst and stretch, which are lent, so it is asked here and in what follows, and is no fact of this type.
     // The same, with a call for each sign ..
     #[inline(always)]
     fn by_sign(self, dst: &mut [u8], stretch: &[u8], bits: &[u8]) -> u64

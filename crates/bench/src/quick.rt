@@ -32,7 +32,7 @@ fn blocks(dst: &mut [u8], block: usize, end: usize)
     }
 }
 
-// Whether the rule is that of LD1R to LD4R.
+// Whether the rule is that of LD1R to LD4R: the definitions' test of it, by name.
 pub(crate) fn always(rule: Rule) -> bool
     ensures { result ≡ is_always rule }
 {

@@ -15,7 +15,7 @@ use crate::reads::Load;
 use crate::{fills, quick, stretches};
 use steps::{Answer, Plan, Rule, StepResult};
 
-// The register that destination j is: from the target on, 31 followed by 0. Both roads ask for it.
+// The register that destination j is: from the target on, 31 followed by 0. Both roads ask for it; j is a number as in `Load`.
 #[tactic(auto, unfolding(steps::specs::Lanes::destination_of))]
 fn destination(plan: Plan, j: u64) -> usize
     requires { j ≤ 256 }

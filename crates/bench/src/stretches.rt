@@ -22,6 +22,7 @@ fn in_area<'a>(area: Area<'a>, a: Address, n: usize) -> Option<&'a [u8]>
     }
     let at = far as usize;
     let end = at + n;
+    // as memory's `judge` asks the right of one byte, which it then reads; here every page is known to have its byte, and none is read
     let readable = area.rights[at / PAGE_BYTES] % 2 == 1
         && area.rights[(end - 1) / PAGE_BYTES] % 2 == 1;
     if readable {

@@ -46,7 +46,8 @@ impl fmt::Display for Base {
     }
 }
 
-// A signed field of four bits, times the unit. Zero is not printed, nor what stands behind it.
+// A signed field of four bits, times the unit. Zero is not printed, nor what stands behind it. It is not the field as plans has it: this text is
+// made apart from all but the decoder.
 fn signed<W: fmt::Write>(f: &mut Formatter<W>, imm4: u32, unit: u8, behind: &str) -> fmt::Result {
     let field = i64::from(imm4 % 16);
     let n = if field < 8 { field } else { field - 16 };

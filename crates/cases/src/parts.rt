@@ -55,7 +55,7 @@ impl<'a> Parts<'a> {
         }
     }
 
-    // The two areas.
+    // The two areas, as bench makes them of what is lent to a step.
     pub(crate) fn areas(self) -> Areas<'a>
         ensures { areas_of result ≡ areas_by self.entry }
     {
@@ -116,7 +116,7 @@ fn put_outcome(out: &mut [u8], x: &mut [u64], word: u32, parts: Parts)
     put_report(out, Told::from(result));
 }
 
-// Kind 0: one step, as `put_outcome` makes it, with room for its scalars.
+// Kind 0: one step, as `put_outcome` makes it, with room for the scalars of any case: nothing is allocated, so that nothing can fail.
 pub(crate) fn asked_step(out: &mut [u8], word: u32, parts: Parts)
     requires { (length parts.scalars.now ≤ 8 * 128) × (length parts.scalars.now % 8 ≡ 0) × (step_length parts ≤ length out.old) }
     ensures { out.new ≡ step_by word parts.entry out.old }

@@ -140,7 +140,7 @@ impl<'a> Areas<'a> {
         self.flash.accepted() && self.ram.accepted() && self.share_none()
     }
 
-    // Where an address lies.
+    // Where an address lies. By a match: a proof learns nothing of what a closure of `or_else` gave.
     #[tactic(auto, unfolding(crate::specs::Areas::place_of, crate::specs::Areas::offset_in))]
     fn locate(self, a: Address) -> Option<Place>
         ensures { result ≡ place_in (areas_of self.entry) a.0 }
@@ -190,7 +190,7 @@ impl<'a> Areas<'a> {
     }
 }
 
-// The address window: the stretch from a byte to its area's end, rights ignored.
+// The address window: the stretch from a byte to its area's end, rights ignored; an empty part, as the scope of work has it, where there is none.
 // It takes no Areas: flash and RAM have the lifetimes that they were lent for, and rights need not live as long as the part.
 #[tactic(auto, using(crate::proofs::Windows::shown_within))]
 pub fn window<'f, 'r: 'f>(

@@ -71,7 +71,7 @@ fn next_step(input: &mut impl Read, stream: &mut Vec<u8>, out: &mut [u8]) -> Res
 }
 
 // Says why the replay ends: at the end of the file by the table, and else on standard error. How it ends is this program's own, as its `Stop` is;
-// what it writes is `telling`'s, which has no output.
+// what it writes is `telling`'s, which has no output, and lies in a `Text`, which is bytes and a length.
 fn tell(output: &impl Print, errors: &impl Print, tally: &Tally, number: u64, stop: Stop) {
     let line = match stop {
         Stop::End => {

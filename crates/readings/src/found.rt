@@ -35,12 +35,9 @@ impl Held<'_> {
     // How many lanes of register r the first `unit` and their copies fill: up to the first lane that differs from the one `unit` before it.
     pub(crate) fn repeated(self, r: u32, width: u32, unit: u64) -> u64 {
         let n = self.lanes(width);
-        for e in unit..n {
-            if self.lane(r, width, e) != self.lane(r, width, e - unit) {
-                return e;
-            }
-        }
-        n
+        (unit..n)
+            .find(|e| self.lane(r, width, *e) != self.lane(r, width, *e - unit))
+            .unwrap_or(n)
     }
 
     // Whether lane `first` of register r and those after it are zero.

@@ -4,7 +4,7 @@ use crate::found::Held;
 use crate::rows::{Row, Tell};
 use memory::Address;
 use std::fmt;
-use steps::StepResult;
+use steps::{Answer, StepResult};
 
 // What a step answered and left: X0, how far PC went, whether the row's targets are as they were, and whether the other registers and X1 to
 // SP are.
@@ -172,11 +172,11 @@ impl Came<'_> {
 
 impl fmt::Display for Came<'_> {
     fn fmt<W: fmt::Write>(&self, f: &mut fmt::Formatter<W>) -> fmt::Result {
-        let number = self.seen.result.answer.number();
-        if self.row.limit && number != 1 {
+        let answer = self.seen.result.answer;
+        if self.row.limit && !matches!(answer, Answer::SetUp) {
             write!(f, "taken: ")?;
         }
-        if number != 0 {
+        if !matches!(answer, Answer::Ran) {
             return self.refused(f);
         }
         match self.row.tell {

@@ -74,7 +74,7 @@ fn one_case(
 }
 
 // Says in one line why the run ends, but for where all cases are answered. How it ends is this program's own, as its `Stop` is; what it writes is
-// `telling`'s, which has no output.
+// `telling`'s, which has no output, and lies in a `Text`, which is bytes and a length.
 fn tell(errors: &impl Print, number: u64, stop: Stop) {
     let line = match stop {
         Stop::End => return,

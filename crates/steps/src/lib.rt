@@ -82,7 +82,7 @@ impl Answer {
         }
     }
 
-    // The element that a fault names, and 0 where there is none.
+    // The element that a fault names, and the scope of work's 0 where there is none.
     pub fn element(self) -> u64
         ensures { AnswerElementPromise self result }
     {
@@ -117,7 +117,8 @@ pub enum Rule {
 // What a load is about to do, with no memory in sight. Element e is read at start + e × size. The destinations are registers from `target` on, 31
 // followed by 0: one for each element where the rule is `Always`, and else one. In each, each of the first `filled` lanes takes its element where
 // the rule says so, and every other lane becomes zero. The stack rule checks SP where one of the first `consulted` lanes is
-// active; where the rule is `Always`, it checks in any case. `back` is what is added to the base, where it is written back.
+// active; where the rule is `Always`, it checks in any case. `back` is what is added to the base, where it is written back. It is flat as its
+// definition is, whose laws speak of each field by itself; so size, lane and sign stand in it, and not the instruction's `Dtype`.
 #[derive(Clone, Copy)]
 pub struct Plan {
     pub start: Address,

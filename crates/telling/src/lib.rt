@@ -36,7 +36,7 @@ fn over_limit(part: Part) -> &'static str
     }
 }
 
-// Why a case is refused.
+// Why a case is refused, in whole texts too.
 fn reason(why: Refusal) -> &'static str
     ensures { result.now ≡ codes (reason_of why) }
 {

@@ -37,7 +37,7 @@ impl Text {
         Text { bytes, n: n + k }
     }
 
-    // The text with a number behind it, in decimal.
+    // The text with a number behind it, in decimal, by a function whose promise is the digits that it writes.
     #[tactic(auto, using(crate::proofs::Texts::decimal))]
     pub fn number(self, v: u64) -> Text
         ensures { DecimalPromise self v result }
