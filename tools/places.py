@@ -4,6 +4,7 @@ tools/places.py [FOLDER]   a line for each kind of place, with its number; --lis
 """
 import difflib
 import itertools
+import os
 import pathlib
 import re
 import sys
@@ -128,4 +129,9 @@ def main():
 
 
 if __name__ == "__main__":
-    main()
+    try:
+        main()
+        sys.stdout.flush()
+    except OSError as e:
+        os.dup2(os.open(os.devnull, os.O_WRONLY), sys.stdout.fileno())  # so that what is left is not written once more at the end
+        sys.exit(f"places.py: {e.strerror}")
