@@ -1,7 +1,9 @@
 // Cases in, outcomes out, in the format of docs/CASES.md: all that matters is `cases::answer`; here it is only read and written.
 #![tactic(auto)]
 
-use cases::{HEAD, LONGER_HEAD, LONGEST_OUTCOME, Refusal};
+ghost use Rattle.std.specs.Prelude.{◌≤◌, length, IfOk};
+
+use cases::{HEAD, LONGER_HEAD, LONGEST_CASE, LONGEST_OUTCOME, Refusal};
 use std::io::{Print, Read};
 
 // What a line on standard error begins with.
@@ -22,36 +24,47 @@ impl From<Refusal> for Stop {
     }
 }
 
-// Reads on until so many bytes of the case are there, or the input ends. `take` and `read_to_end` are std's; the programs that read so share no limit
-// and no error.
-fn read_on(input: &mut impl Read, case: &mut Vec<u8>, whole: usize) -> Result<(), Stop> {
-    let missing = whole.saturating_sub(case.len());
-    input
-        .take(missing as u64)
-        .read_to_end(case)
-        .map_err(|_| Stop::Unread)?;
-    Ok(())
-}
-
-// How many bytes a case has of which a head is there. Of the bytes of a head, that they end too early is said exactly where it is longer.
-fn whole_of(input: &mut impl Read, case: &mut Vec<u8>) -> Result<usize, Stop> {
-    match cases::head(case) {
-        Err(Refusal::Ends) if case.len() == HEAD => {
-            read_on(input, case, LONGER_HEAD)?;
-            Ok(cases::head(case)?.whole)
+// Reads until the room is full or the input ends, and answers how many bytes came. In place, by `read`: `read_to_end` into a Vec fills with zeros
+// what it is about to read, and can run out of memory. The three programs that read have this loop each, beside their own `Stop`.
+fn read_into(input: &mut impl Read, room: &mut [u8]) -> Result<usize, Stop>
+    ensures { IfOk result (λ n. n ≤ length room.new) }
+{
+    let mut came = 0;
+    // each turn brings a byte or is the last, so that these turns are enough
+    for _ in 0..room.len() {
+        match input.read(&mut room[came..]) {
+            Ok(0) => return Ok(came),
+            Ok(n) => came += n,
+            Err(_) => return Err(Stop::Unread),
         }
-        opened => Ok(opened?.whole),
+        if came == room.len() {
+            return Ok(came);
+        }
     }
+    Ok(came)
 }
 
-// Reads a case: first its head, which says how long it is, and then the rest.
-fn read_case(input: &mut impl Read, case: &mut Vec<u8>) -> Result<(), Stop> {
-    read_on(input, case, HEAD)?;
-    if case.is_empty() {
+// Reads a case into the front of the buffer, which has room for every case: first its head, which says how long it is, and then the rest. Answers
+// how many bytes came.
+fn read_case(input: &mut impl Read, case: &mut [u8; LONGEST_CASE]) -> Result<usize, Stop>
+    ensures { IfOk result (λ n. n ≤ LONGEST_CASE) }
+{
+    let mut came = read_into(input, &mut case[..HEAD])?;
+    if came == 0 {
         return Err(Stop::End);
     }
-    let whole = whole_of(input, case)?;
-    read_on(input, case, whole)
+    let whole = match cases::head(&case[..came]) {
+        // of the bytes of a head, that they end too early is said exactly where it is longer
+        Err(Refusal::Ends) if came == HEAD => {
+            came += read_into(input, &mut case[HEAD..LONGER_HEAD])?;
+            cases::head(&case[..came])?.whole
+        }
+        opened => opened?.whole,
+    };
+    if let Some(rest) = case.get_mut(came..whole) {
+        came += read_into(input, rest)?;
+    }
+    Ok(came)
 }
 
 // Answers a case, and writes its outcome.
@@ -65,12 +78,11 @@ fn answered(output: &impl Print, case: &[u8], out: &mut [u8]) -> Result<(), Stop
 fn one_case(
     input: &mut impl Read,
     output: &impl Print,
-    case: &mut Vec<u8>,
+    case: &mut [u8; LONGEST_CASE],
     out: &mut [u8],
 ) -> Result<(), Stop> {
-    case.clear();
-    read_case(input, case)?;
-    answered(output, case, out)
+    let came = read_case(input, case)?;
+    answered(output, &case[..came], out)
 }
 
 // Says in one line why the run ends, but for where all cases are answered. How it ends is this program's own, as its `Stop` is; what it writes is
@@ -88,7 +100,7 @@ fn tell(errors: &impl Print, number: u64, stop: Stop) {
 }
 
 fn main(rt: HostRuntime) {
-    let mut case = Vec::new(rt.alloc());
+    let mut case = [0u8; LONGEST_CASE];
     let mut out = [0u8; LONGEST_OUTCOME];
     // a proved loop has to end, and nothing says that the input does: so it counts up to a number that no run comes to
     for number in 0..u64::MAX {
