@@ -54,20 +54,44 @@ fn replayed(stream: &[u8], out: &mut [u8]) -> Result<Step, Stop>
     })
 }
 
-// Reads on behind what is read already, as many bytes as a step can have, and replays the step that they open with. `take` and `read_to_end` are
-// std's; the programs that read so share no limit and no error.
-fn next_step(input: &mut impl Read, stream: &mut Vec<u8>, out: &mut [u8]) -> Result<Step, Stop> {
-    let missing = LONGEST_STEP.saturating_sub(stream.len());
-    input
-        .take(missing as u64)
-        .read_to_end(stream)
-        .map_err(|_| Stop::Unread)?;
-    if stream.is_empty() {
+// Reads until the room is full or the input ends, and answers how many bytes came. In place, by `read`: `read_to_end` into a Vec fills with zeros
+// what it is about to read, and can run out of memory. The three programs that read have this loop each, beside their own `Stop`.
+fn read_into(input: &mut impl Read, room: &mut [u8]) -> Result<usize, Stop>
+    ensures { IfOk result (λ n. n ≤ length room.new) }
+{
+    let mut came = 0;
+    // each turn brings a byte or is the last, so that these turns are enough
+    for _ in 0..room.len() {
+        match input.read(&mut room[came..]) {
+            Ok(0) => return Ok(came),
+            Ok(n) => came += n,
+            Err(_) => return Err(Stop::Unread),
+        }
+        if came == room.len() {
+            return Ok(came);
+        }
+    }
+    Ok(came)
+}
+
+// Reads on behind the bytes that are read already, up to as many as a step can have, replays the step that they open with, and moves what lies behind
+// it to the front. Answers how many bytes are read behind it, too.
+fn next_step(
+    input: &mut impl Read,
+    stream: &mut [u8; LONGEST_STEP],
+    read: usize,
+    out: &mut [u8],
+) -> Result<(Step, usize), Stop>
+    requires { read ≤ length stream.old }
+    ensures { IfOk result (λ next. next.1 ≤ length stream.new) }
+{
+    let read = read + read_into(input, &mut stream[read..])?;
+    if read == 0 {
         return Err(Stop::End);
     }
-    let step = replayed(stream, out)?;
-    stream.drain(..step.bytes);
-    Ok(step)
+    let step = replayed(&stream[..read], out)?;
+    stream.copy_within(step.bytes..read, 0);
+    Ok((step, read - step.bytes))
 }
 
 // Says why the replay ends: at the end of the file by the table, and else on standard error. How it ends is this program's own, as its `Stop` is;
@@ -88,13 +112,17 @@ fn tell(output: &impl Print, errors: &impl Print, tally: &Tally, number: u64, st
 }
 
 fn main(rt: HostRuntime) {
-    let mut stream = Vec::new(rt.alloc());
+    let mut stream = [0u8; LONGEST_STEP];
+    let mut read = 0;
     let mut out = [0u8; LONGEST_OUTCOME];
     let mut tally = Tally::new();
     // a proved loop has to end, and nothing says that the input does: so it counts up to a number that no run comes to
     for number in 0..u64::MAX {
-        match next_step(&mut rt.stdin(), &mut stream, &mut out) {
-            Ok(step) => tally.count(&rt, number, step),
+        match next_step(&mut rt.stdin(), &mut stream, read, &mut out) {
+            Ok((step, behind)) => {
+                tally.count(&rt, number, step);
+                read = behind;
+            }
             Err(stop) => {
                 tell(&rt, &rt.stderr(), &tally, number, stop);
                 return;
