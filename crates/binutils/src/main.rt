@@ -2,6 +2,8 @@
 // text, made from the decoded fields, is binutils' text; where it is none of ours, binutils' text is none of them either.
 #![tactic(auto)]
 
+ghost use Rattle.std.specs.Prelude.{◌≤◌, length, IfOk};
+
 mod lines;
 mod printed;
 mod table;
@@ -114,27 +116,47 @@ fn compare(rt: &impl Print, number: u64, line: &[u8], table: &mut Table) -> Resu
     Ok(())
 }
 
-// Reads on behind what is read already, as many bytes as a line may have, and compares the line that they open with. `take` and `read_to_end` are
-// std's; the programs that read so share no limit and no error.
+// Reads until the room is full or the input ends, and answers how many bytes came. In place, by `read`: `read_to_end` into a Vec fills with zeros
+// what it is about to read, and can run out of memory. The three programs that read have this loop each, beside their own `Stop`.
+fn read_into(input: &mut impl Read, room: &mut [u8]) -> Result<usize, Stop>
+    ensures { IfOk result (λ n. n ≤ length room.new) }
+{
+    let mut came = 0;
+    // each turn brings a byte or is the last, so that these turns are enough
+    for _ in 0..room.len() {
+        match input.read(&mut room[came..]) {
+            Ok(0) => return Ok(came),
+            Ok(n) => came += n,
+            Err(_) => return Err(Stop::Unread),
+        }
+        if came == room.len() {
+            return Ok(came);
+        }
+    }
+    Ok(came)
+}
+
+// Reads on behind the bytes that are read already, up to as many as a line may have, compares the line that they open with, and moves what lies behind
+// it to the front. Answers how many bytes are read behind it.
 fn one_line(
     input: &mut impl Read,
     output: &impl Print,
     number: u64,
-    window: &mut Vec<u8>,
+    window: &mut [u8; LONGEST_LINE],
+    read: usize,
     table: &mut Table,
-) -> Result<(), Stop> {
-    let missing = LONGEST_LINE.saturating_sub(window.len());
-    input
-        .take(missing as u64)
-        .read_to_end(window)
-        .map_err(|_| Stop::Unread)?;
-    if window.is_empty() {
+) -> Result<usize, Stop>
+    requires { read ≤ length window.old }
+    ensures { IfOk result (λ behind. behind ≤ length window.new) }
+{
+    let read = read + read_into(input, &mut window[read..])?;
+    if read == 0 {
         return Err(Stop::End);
     }
-    let end = memchr(b'\n', window).ok_or(Stop::NoEnd)?;
+    let end = memchr(b'\n', &window[..read]).ok_or(Stop::NoEnd)?;
     compare(output, number, &window[..end], table)?;
-    window.drain(..end + 1);
-    Ok(())
+    window.copy_within(end + 1..read, 0);
+    Ok(read - (end + 1))
 }
 
 // Says why the run ends: where all lines are compared by the table, and else on standard error.
@@ -152,13 +174,17 @@ fn tell(rt: &(impl Print + Eprint), table: &Table, number: u64, stop: Stop) {
 }
 
 fn main(rt: HostRuntime) {
-    let mut window = Vec::new(rt.alloc());
+    let mut window = [0u8; LONGEST_LINE];
+    let mut read = 0;
     let mut table = Table::new();
     // a proved loop has to end, and nothing says that the input does: so it counts up to a number that no run comes to
     for number in 1..u64::MAX {
-        if let Err(stop) = one_line(&mut rt.stdin(), &rt, number, &mut window, &mut table) {
-            tell(&rt, &table, number, stop);
-            return;
+        match one_line(&mut rt.stdin(), &rt, number, &mut window, read, &mut table) {
+            Ok(behind) => read = behind,
+            Err(stop) => {
+                tell(&rt, &table, number, stop);
+                return;
+            }
         }
     }
 }
