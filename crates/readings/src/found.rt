@@ -12,10 +12,10 @@ pub struct Held<'a> {
     pub ram: &'a [u8],
 }
 
-// Where in an area a number of 64 bits lies, lowest byte first. The patterns have each at one place only.
+// Where in an area a number of 64 bits lies, lowest byte first. The patterns have each at one place only, mostly near the end, so it is looked for from there.
 fn find(area: &[u8], bits: u64) -> Option<usize> {
     let bytes = bits.to_le_bytes();
-    area.windows(8).position(|eight| eight == bytes.as_slice())
+    area.windows(8).rposition(|eight| eight == bytes.as_slice())
 }
 
 impl Held<'_> {
