@@ -38,7 +38,7 @@ module _ (answer : ℕ → Reading) (p : Plan) (pred : List ℕ) (d : ℕ) where
 
 -- a number of n bytes with its sign in 64 bits
 module _ (n : ℕ) (some : 0 < n) (few : n ≤ 8) where
-  twice : 2 ^ (8 * n) ≡ 2 ^ (8 * n - 1) + 2 ^ (8 * n - 1)
+  pub twice : 2 ^ (8 * n) ≡ 2 ^ (8 * n - 1) + 2 ^ (8 * n - 1)
   twice = let e : 8 * n ≡ suc (8 * n - 1) = omega arith in ap (λ (k : ℕ). 2 ^ k) e ∙ two-pow-succ (8 * n - 1)
 
   -- a number is above half of the largest where its sign bit is 1

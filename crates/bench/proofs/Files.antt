@@ -2,9 +2,10 @@
 use Rattle.std.proofs.Common.{◌≡◌, ℕ, ◌+◌, ◌-◌, ◌*◌, ◌<◌, ◌≤◌, List, ◌++◌, length, take, drop, ap, ◌∙◌, mod-lt, add-one, lit<, lit≤}
 use Rattle.ground.specs.Lists.{replaced}
 use Rattle.ground.proofs.Fills.{back_in, part_length}
+use Rattle.ground.proofs.Laws.{length_listed, length_replaced}
 use Rattle.memory.specs.Elements.{Reading}
 use Rattle.steps.specs.Lanes.{destinations_by, destinations_in, destination_of}
-use Rattle.steps.specs.Outcomes.{register_of, vectors_after}
+use Rattle.steps.specs.Outcomes.{register_byte, register_of, vectors_after}
 use Rattle.steps.specs.Inside.{PlanInRange}
 use Rattle.steps.specs.declared.Plan.{Plan}
 use Rattle.steps.specs.declared.Rule.{Rule}
@@ -43,6 +44,10 @@ module _ (answer : ℕ → Reading) (p : Plan) (pred z₀ z : List ℕ) (n j r :
 
   back : z' ≡ replaced z (r * n) n (register_of answer p pred j n)
   back = back_in z ys _ (r * n) n (filled ∙ ap (register_of answer p pred j) (part_length z (r * n) n fits))
+
+  pub as_long : length z' ≡ length z
+  unfolding register_of
+  as_long = ap length back ∙ length_replaced z (r * n) n _ (length_listed (register_byte answer p pred j) 0 n) fits
 
   pub destination_filled : r ≡ destination_of p j → z' ≡ replaced z (destination_of p j * n) n (register_of answer p pred j n)
   destination_filled at = rw (← at) back

@@ -1,11 +1,11 @@
 -- A register's own lanes, those that are filled from a stretch: what is told of them by the rule, and what `own_lanes` makes of them.
-use Rattle.std.proofs.Common.{if◌then◌else◌, ◌≡◌, ℕ, ◌+◌, ◌*◌, ◌/◌, ◌%◌, ◌<◌, ◌≤◌, Bool, true, false, List, [], ◌∷◌, length, sym, refl, ap, ◌∙◌, le_refl, mul-le-mul_right, mod-eq_of_lt, mul_assoc, mul-zero, zero-mul, mul-div_cancel, arith, lt-ltb, take, length-take}
+use Rattle.std.proofs.Common.{if◌then◌else◌, ◌≡◌, ℕ, ◌+◌, ◌*◌, ◌/◌, ◌%◌, ◌<◌, ◌≤◌, Bool, true, false, List, [], ◌∷◌, length, sym, refl, ap, ◌∙◌, le_refl, mul-le-mul_right, mod-eq_of_lt, mul_assoc, mul-pos, mul-zero, zero-add, zero-mul, mul-div_cancel, arith, lit≤, lt-ltb, take, length-take}
 use native.Mathlib.Nat.{mod-le, mod-mod}
 use Rattle.ground.specs.Lists.{any_below}
 use Rattle.ground.specs.Sizes.{bytes_of}
 use Rattle.ground.specs.declared.Size.{Size}
 use Rattle.ground.proofs.Laws.{never}
-use Rattle.ground.proofs.Sizes.{bytes_some}
+use Rattle.ground.proofs.Sizes.{bytes_some, bytes_few}
 use Rattle.memory.specs.Elements.{Reading}
 use Rattle.steps.specs.Lanes.{bit_of, is_active, wanted, lane_takes, lane_element}
 use Rattle.steps.specs.Outcomes.{lane_value}
@@ -16,7 +16,7 @@ use Rattle.steps.proofs.Walks.{many}
 use Rattle.plans.specs.Inside.{ShapedAs, Shaped}
 use Rattle.bench.specs.declared.actives.Lanes.{Lanes}
 use Rattle.bench.specs.declared.chunks.Widening.{Widening}
-use Rattle.bench.specs.Inside.Quick.{ChunksOut, is_always, own_of, stride_of, count_of, own_in, FillIn, OwnOut}
+use Rattle.bench.specs.Inside.Quick.{ElementsIn, ChunksOut, is_always, own_of, stride_of, count_of, own_in, FillIn, OwnOut}
 use Rattle.bench.proofs.Small.{slot, chunk_whole}
 use Rattle.bench.proofs.Many.{any_many}
 use Rattle.bench.proofs.Lanes.{lanes_taken}
@@ -109,6 +109,23 @@ module _ {p : Plan} {pred s : List ℕ} {n : ℕ} (f : FillIn p pred s n) where
 
   own_room : own_in p * 8 ≤ n
   own_room = omega (arith, same_bytes, mul-le-mul_right (bytes_of p.lane) tells.room, f.fit.shaped.room)
+
+  own_few : (0 < own_in p * 8) × (own_in p ≤ 32)
+  own_few = (rw same_bytes at (mul-pos tells.some (bytes_some p.lane)), omega (arith, own_room, f.fit.most))
+
+  -- their elements lie no more than 8 bytes apart, and in the stretch; they themselves in the register
+  pub own_in_lem : (stride_of p.rule (bytes_of p.size) ≤ 8) × (own_in p * (8 / bytes_of p.lane) * bytes_of p.lane ≤ n)
+      × ElementsIn s 0 (stride_of p.rule (bytes_of p.size)) (bytes_of p.size) (own_in p * (8 / bytes_of p.lane))
+  own_in_lem = (near p.rule, rw same_bytes own_room, λ l h. rw (zero-add, f.long) (tells.far l h))
+    where
+      near : (r : Rule) → stride_of r (bytes_of p.size) ≤ 8
+      near Always = lit≤ tt
+      near LaneBit = lit≤ tt
+      near ElementBit = bytes_few p.size
+
+  -- .. with the number as it was found
+  pub found_few : {own : ℕ} → own ≡ own_in p → (0 < own * 8) × (own * 8 ≤ 256)
+  found_few o = let few = own_few in rw o (few.0, omega (arith, few.1))
 
   pub own_there : own_in p ≤ length pred
   own_there = omega (arith, own_room, f.fit.decided f.asks)

@@ -1,5 +1,5 @@
 -- A destination of LD1R to LD4R: an element over and over, and zeros above.
-use Rattle.std.proofs.Common.{◌≡◌, ℕ, zero, suc, ◌+◌, ◌*◌, ◌/◌, ◌%◌, ◌^◌, ◌<◌, ◌≤◌, true, ltb, ◌⊎◌, List, length, sym, ap, ◌∙◌, subst, ⊎_elim, mod-lt, mod-eq_of_lt, mul_assoc, suc-mul, div-lt_iff_lt-mul, mul-zero, div-add-mod', le-div_iff_mul-le, zero-add, mul-one, mul-add, arith, lit<, pow-add, ltb-false, ltb-true, le-ltb, lt-ltb}
+use Rattle.std.proofs.Common.{◌≡◌, ℕ, zero, suc, ◌+◌, ◌*◌, ◌/◌, ◌%◌, ◌^◌, ◌<◌, ◌≤◌, true, ltb, ◌⊎◌, List, length, sym, ap, ◌∙◌, subst, ⊎_elim, mod-lt, mod-eq_of_lt, mul_assoc, suc-mul, div-lt_iff_lt-mul, mul-zero, div-add-mod', le-div_iff_mul-le, zero-add, mul-one, mul-add, arith, lit<, pow_pos, pow-add, ltb-false, ltb-true, le-ltb, lt-ltb}
 use native.Mathlib.Nat.{zero-div, add-mul-div_right, add-mul-mod_self_right, div-div-eq-div-mul}
 use native.Mathlib.Nat.{div-eq_of_lt}
 use Rattle.ground.specs.Lists.{bytes_at}
@@ -7,7 +7,7 @@ use Rattle.ground.specs.Sizes.{bytes_of}
 use Rattle.ground.specs.declared.Size.{Size}
 use Rattle.ground.specs.declared.Size.TheVariants.{B8, B16, B32, B64}
 use Rattle.ground.proofs.Fills.{Filled, is_listed}
-use Rattle.ground.proofs.Laws.{true_or_false, digit_mod}
+use Rattle.ground.proofs.Laws.{true_or_false, digit_mod, pow_bytes}
 use Rattle.ground.proofs.Sizes.{bytes_some}
 use Rattle.steps.specs.Lanes.{lane_takes, lane_element}
 use Rattle.steps.specs.Outcomes.{extended, lane_value, register_byte, register_of}
@@ -53,17 +53,21 @@ times : (b v k : ℕ) → v * repeated b 1 k ≡ repeated b v k
 times b v zero = mul-zero v
 times b v (suc k) = mul-add v 1 (repeated b 1 k * b) ∙ rw (mul-one, ← mul_assoc, times b v k)
 
--- .. and so a number of w bytes is spread over eight
-spread_digits : (v w k : ℕ) → 0 < w → k * w ≡ 8 → v < 256 ^ w → Spread v w (repeated (256 ^ w) v k)
-spread_digits v w k some even small i h =
+-- .. and so the last w bytes of a number are spread over eight
+spread_digits : (v w k : ℕ) → 0 < w → k * w ≡ 8 → Spread v w (repeated (256 ^ w) (v % 256 ^ w) k)
+spread_digits v w k some even i h =
     let l = i / w in
     let j = i % w in
     let at : l * w + j ≡ i = div-add-mod' i w in
     let few : l < k = (div-lt_iff_lt-mul some).1 (rw even h) in
-    rw at at (repeated_byte w v small k l j few (mod-lt i some))
+    rw at at (repeated_byte w (v % 256 ^ w) (mod-lt v (rw pow_bytes (pow_pos (8 * w)))) k l j few (mod-lt i some)) ∙ digit_mod v w j (mod-lt i some)
 
-pub spreads : (v w k : ℕ) → 0 < w → k * w ≡ 8 → v < 256 ^ w → Spread v w (v * repeated (256 ^ w) 1 k)
-spreads v w k some even small = subst (Spread v w) (sym (times (256 ^ w) v k)) (spread_digits v w k some even small)
+pub spreads : (v w k : ℕ) → 0 < w → k * w ≡ 8 → Spread v w (v % 256 ^ w * repeated (256 ^ w) 1 k)
+spreads v w k some even = subst (Spread v w) (sym (times (256 ^ w) (v % 256 ^ w) k)) (spread_digits v w k some even)
+
+-- .. which are all of it where it has no more
+pub spreads_all : (v w k : ℕ) → 0 < w → k * w ≡ 8 → v < 256 ^ w → Spread v w (v * repeated (256 ^ w) 1 k)
+spreads_all v w k some even small = subst (λ (x : ℕ). Spread v w (x * repeated (256 ^ w) 1 k)) (mod-eq_of_lt small) (spreads v w k some even)
 
 -- ---- a destination, of the element's chunks and zeros
 -- a chunk is whole elements

@@ -1,8 +1,12 @@
 -- Products and quotients of an element's or a lane's number that are small enough.
-use Rattle.std.proofs.Common.{◌≡◌, ℕ, ◌+◌, ◌*◌, ◌/◌, ◌%◌, ◌<◌, ◌≤◌, mul-le-mul_right, suc-mul, refl, arith}
+use Rattle.std.proofs.Common.{◌≡◌, ℕ, ◌+◌, ◌*◌, ◌/◌, ◌%◌, ◌<◌, ◌≤◌, mul-le-mul_right, suc-mul, mul-le-mul, refl, arith}
 use Rattle.ground.specs.Sizes.{bytes_of}
 use Rattle.ground.specs.declared.Size.{Size}
-use Rattle.ground.proofs.Sizes.{whole_lanes}
+use Rattle.ground.proofs.Sizes.{bytes_few, whole_lanes}
+
+-- 256 elements or lanes of any size are at most 2,048 bytes
+pub small : (n : ℕ) (s : Size) → n ≤ 256 → n * bytes_of s ≤ 2048
+small n s h = mul-le-mul h (bytes_few s)
 
 -- no lane of w bytes is left of a register of whole 8 bytes
 pub whole : (n l : ℕ) {w : ℕ} (s : Size) → w ≡ bytes_of s → n % 8 ≡ 0 → n / w ≤ l → n ≤ l * w

@@ -1,5 +1,6 @@
 -- One turn of `survey`'s loop, over any wishes and any answers: the walk over what is left goes on from the count so far.
 use Rattle.std.proofs.Common.{if◌then◌else◌, ◌≡◌, ℕ, zero, suc, ◌+◌, ◌-◌, ◌<◌, ◌≤◌, Bool, true, false, ◌∷◌, Ok, Err, sym, ◌∙◌, sub-one, arith}
+use native.Mathlib.Nat.{sub-zero}
 use Rattle.ground.specs.Lists.{up_from}
 use Rattle.memory.specs.declared.BadByte.{BadByte}
 use Rattle.memory.specs.Elements.{Reading}
@@ -11,6 +12,9 @@ pub record SoFar (want : ℕ → Bool) (answer : ℕ → Reading) (n count e : �
   pub within : e ≤ n
   pub counts : count ≤ e
   pub walks : walk answer 0 (up_from want 0 n) ≡ walk answer count (up_from want e (n - e))
+
+pub begun : (want : ℕ → Bool) (answer : ℕ → Reading) (n : ℕ) → SoFar want answer n 0 0
+begun want answer n = record { within = omega arith; counts = omega arith; walks = rw sub-zero }
 
 one_more : (want : ℕ → Bool) (e n : ℕ) → 0 < n → up_from want e n ≡ (let rest = up_from want (e + 1) (n - 1) in if want e then e ∷ rest else rest)
 one_more want e zero h = absurd (omega arith)
