@@ -28,7 +28,6 @@ impl Address {
     }
 
     // The address d bytes on, or back.
-    #[tactic(auto, using(crate::proofs::Moves::moved_signed))]
     pub fn moved(self, d: i64) -> Address
         ensures { MovedPromise self.0 d result }
     {
