@@ -10,6 +10,7 @@ use borrow.Author.Tests.{ltb-true, ltb-false, lt-ltb, le-ltb}
 use lib.Dec.{ltb, lit<}
 use lib.ListN.{length, take, drop, take-append-drop, length-append}
 use lib.Seq.{take-length, take-append-add, take-append-le, take-append_seam}
+use Rattle.std.proofs.lemmas.List.{take_min}
 use Rattle.ground.specs.Lists.{alike, replaced}
 use Rattle.ground.proofs.Laws.{true_or_false, if_cases, alike_self, alike_same}
 use Rattle.ground.proofs.Fills.{back_in, replaced_next}
@@ -106,6 +107,10 @@ length_digits (suc k) v = rw (length-append, length_digits k (v / 10)) (omega ar
 pub digits_most : (v k : ℕ) → v < 10 ^ suc k → length (decimal_of v) ≤ suc k
 unfolding decimal_of
 digits_most v k h = rw (length_digits (places_of v v) v) (few_places v v k h)
+
+-- a text longer than its bytes is all of them
+pub all_there : (t : Text) {k : ℕ} → length t.bytes ≡ 128 → k ≡ min t.n 128 → take k t.bytes ≡ bytes_in t
+all_there t size h = rw (h, ← size) (take_min t.n t.bytes)
 
 -- whether a text says these bytes and no other
 pub same_said : (t : Text) (s : List ℕ) (r : Bool) → SamePromise t s r → (r ≡ true) ↔ (bytes_in t ≡ s)

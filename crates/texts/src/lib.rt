@@ -24,7 +24,7 @@ impl Text {
     }
 
     // The text with more behind it. What has no room is left out.
-    #[tactic(auto, using(crate::proofs::Texts::full, crate::proofs::Texts::put_behind))]
+    #[tactic(auto, using(crate::proofs::Texts::full))]
     pub fn and(self, s: &[u8]) -> Text
         ensures { AndPromise self s.now result }
     {
