@@ -28,7 +28,7 @@ decimal_of v = last_digits 10 (places_of v v) v
 abbrev pub TextPromise : List ℕ → Text → Type 0
 TextPromise s r = r ≡ and_of empty s
 
--- what `Text::and` promises: the text with these bytes behind it
+-- what `Text::and` promises, and a write to a text, as `write!` makes it: the text with these bytes behind it
 abbrev pub AndPromise : Text → List ℕ → Text → Type 0
 AndPromise t s r = r ≡ and_of t s
 

@@ -1,7 +1,10 @@
 // Short texts, put together piece by piece.
 #![tactic(auto)]
 
+ghost use Rattle.std.specs.Prelude.{IsOk};
 ghost use Rattle.texts.specs.Texts.{TextPromise, AndPromise, DecimalPromise, SamePromise};
+
+use std::fmt;
 
 // Up to 128 bytes, of which the first n are the text. Spaces stand behind it, so that a column is filled by writing more than the text has.
 // It is no String, since a library here allocates nothing and these functions cannot fail.
@@ -53,5 +56,18 @@ impl Text {
     {
         let bytes = self.bytes;
         &bytes[..self.n.min(128)] == s
+    }
+}
+
+// What is written to a text is put behind it: what has no room is left out, and no write fails.
+impl fmt::Write for Text {
+    ghost write_str_gives = { λ t bytes r. AndPromise t bytes r };
+
+    fn write_str(&mut self, s: &str) -> fmt::Result
+        ensures ok { IsOk result → AndPromise self.old s.now self.new }
+        ensures never_fails { IsOk result }
+    {
+        *self = self.and(s.as_bytes());
+        Ok(())
     }
 }
