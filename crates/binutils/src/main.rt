@@ -8,13 +8,13 @@ mod lines;
 mod printed;
 mod table;
 
-use arrayvec::ArrayString;
 use memchr::memchr;
 use printed::Load;
 use std::fmt::Write;
 use std::io::{Eprint, Print, Read};
 use std::{fmt, io};
 use table::{Row, Table};
+use texts::Text;
 use words::{Insn, NotALoad, Offset, Shape};
 
 // How many bytes a line may have, with its end.
@@ -74,8 +74,8 @@ fn row(decoded: Result<Insn, NotALoad>) -> Row {
 
 // Whether the text of a load is binutils' text.
 fn is_printed(insn: Insn, text: &[u8]) -> bool {
-    let mut ours: ArrayString<128> = ArrayString::new();
-    write!(ours, "{}", Load(insn)).is_ok() && ours.as_str().as_bytes() == text
+    let mut ours = Text::of(b"");
+    write!(ours, "{}", Load(insn)).is_ok() && ours.same(text)
 }
 
 // Whether what a word is agrees with binutils' text. The text of a load must also pass `listed`, so that the loads test the test

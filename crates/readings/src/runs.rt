@@ -3,10 +3,10 @@ use crate::found::Held;
 use crate::phrases::{Came, Seen};
 use crate::rows::Row;
 use crate::setups;
-use arrayvec::ArrayString;
 use memory::{Address, Map};
 use std::fmt::Write;
 use steps::{Lent, Settings, StepResult};
+use texts::Text;
 
 // Lends what a row asks and steps: flash at 0, RAM at the end, every page readable but for flash's page 1 where the row says so. z and x stay apart,
 // as `bench::step` takes them.
@@ -36,8 +36,9 @@ fn lent(row: Row, z: &mut [u8], x: &mut [u64; 33], flash: &[u8], ram: &[u8]) -> 
     bench::step(z, x, ram, row.word, lent)
 }
 
-// Sets a row up over as much of flash and RAM as it asks, steps, and tells what came. No row's text has more than 128 bytes.
-pub(crate) fn stepped(row: Row, flash: &[u8], ram: &[u8]) -> ArrayString<128> {
+// Sets a row up over as much of flash and RAM as it asks, steps, and tells what came: in a Text, since how its `same` compares is proved. No row's
+// text has more than 128 bytes.
+pub(crate) fn stepped(row: Row, flash: &[u8], ram: &[u8]) -> Text {
     let flash = flash.get(..row.flash).unwrap_or(flash);
     let ram = ram.get(..row.ram).unwrap_or(ram);
     let before = setups::file(row.vl);
@@ -60,7 +61,7 @@ pub(crate) fn stepped(row: Row, flash: &[u8], ram: &[u8]) -> ArrayString<128> {
         flash,
         ram,
     };
-    let mut text = ArrayString::new();
+    let mut text = Text::of(b"");
     let _ = write!(text, "{}", Came { row, seen, held });
     text
 }
