@@ -17,32 +17,32 @@ case_bits binary32 x = refl
 case_bits binary64 x = refl
 
 module _ (f : Format) (n : ℕ) where
-  pub of_nan : nan_bits f n ≡ true → float_of f n ≡ Whole n
+  pub of_nan : nan_bits f n ≡ true → float_of f n ≡ Some (Whole n)
   unfolding float_of
   of_nan e = rw e
 
-  pub of_float : nan_bits f n ≡ false → float_of f n ≡ float_case f (of_bits f n)
+  pub of_float : nan_bits f n ≡ false → float_of f n ≡ Some (float_case f (of_bits f n))
   unfolding float_of
   of_float e = rw e
 
   -- above the bits of infinity, whatever the sign, lie a NaN's ..
-  pub above_infinity : ones f * hid f < n % top f → Whole n ≡ float_of f n
+  pub above_infinity : ones f * hid f < n % top f → Some (Whole n) ≡ float_of f n
   above_infinity h = sym (of_nan (nan_bits_above f n ∙ lt-ltb _ _ h))
 
   -- .. and at or below them none
   no_nan : n % top f ≤ ones f * hid f → nan_bits f n ≡ false
   no_nan h = nan_bits_above f n ∙ le-ltb _ _ h
 
-  pub to_infinity : n % top f ≤ ones f * hid f → float_case f (of_bits f n) ≡ float_of f n
+  pub to_infinity : n % top f ≤ ones f * hid f → Some (float_case f (of_bits f n)) ≡ float_of f n
   to_infinity h = sym (of_float (no_nan h))
 
   pub plain : n % top f ≤ ones f * hid f → T (not (nan_bits f n))
   plain h = rw (no_nan h) tt
 
   -- -0.0, infinities, subnormals and NaNs too
-  pub bits_kept : n < 2 * top f → bits_of (Some (float_of f n)) ≡ n
+  pub bits_kept : n < 2 * top f → bits_of (float_of f n) ≡ n
   unfolding float_of bits_of
   bits_kept h =
-      if_cases (λ s. bits_of (Some s) ≡ n) (nan_bits f n) (Whole n) (float_case f (of_bits f n))
+      if_cases (λ s. bits_of s ≡ n) (nan_bits f n) (Some (Whole n)) (Some (float_case f (of_bits f n)))
       (λ e. refl)
       (λ e. case_bits f (of_bits f n) ∙ to_bits-of_bits f n h (rw (← nan_bits_is f n, e) tt))

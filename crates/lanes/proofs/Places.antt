@@ -25,7 +25,7 @@ module _ {vl : ℕ} {z : List ℕ} {register : ℕ} {kind : Kind} {width lane : 
       let below = register_room vl (width / 8) lane (rw bytes.whole t.counted) in
       omega (arith, below, mul-le-mul_right (vl / 8) t.named)
 
-  in_word : lane_at vl register width lane < 2 ^ 64
+  pub in_word : lane_at vl register width lane < 2 ^ 64
   in_word =
       let file = t.file in
       let most = t.allowed.largest in

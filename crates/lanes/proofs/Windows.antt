@@ -24,16 +24,26 @@ use Rattle.lanes.proofs.Tests.{there_exactly}
 use Rattle.lanes.proofs.Places.{bytes, lane_fitting}
 
 -- ---- bits that are shown, whatever lane they are of
-kept : (kind : Kind) (width n : ℕ) → WidthFor kind width → n < 2 ^ width → bits_of (Some (shown_as kind n)) ≡ n
+some_of : (f : Format) (n : ℕ) → float_of f n ≡ None → ⊥
+unfolding float_of
+some_of f n =
+    if_cases (λ s. s ≡ None → ⊥) (nan_bits f n) (Some (Whole n)) (Some (float_case f (of_bits f n))) (λ _. λ e. cc) (λ _. λ e. cc)
+
+some : (kind : Kind) (n : ℕ) → shown_as kind n ≡ None → ⊥
+some As.Whole n e = cc
+some As.Single n e = some_of binary32 n e
+some As.Double n e = some_of binary64 n e
+
+kept : (kind : Kind) (width n : ℕ) → WidthFor kind width → n < 2 ^ width → bits_of (shown_as kind n) ≡ n
 unfolding bits_of
 kept As.Whole width n e h = refl
 kept As.Single width n e h = bits_kept binary32 n (rw e at h)
 kept As.Double width n e h = bits_kept binary64 n (rw e at h)
 
-float_asked : (f : Format) (n : ℕ) → bits_of (Some (float_of f n)) ≡ n → AsFloat f (float_case f) (Some (float_of f n))
-float_asked f n k = (λ e. (of_bits f n, ap Some (of_float f n (rw k at e))), λ e. rw k (ap Some (of_nan f n (rw k at e))))
+float_asked : (f : Format) (n : ℕ) → bits_of (float_of f n) ≡ n → AsFloat f (float_case f) (float_of f n)
+float_asked f n k = (λ e. (of_bits f n, of_float f n (rw k at e)), λ e. rw k (of_nan f n (rw k at e)))
 
-told_asked : (kind : Kind) (n : ℕ) → bits_of (Some (shown_as kind n)) ≡ n → AsAsked kind (Some (shown_as kind n))
+told_asked : (kind : Kind) (n : ℕ) → bits_of (shown_as kind n) ≡ n → AsAsked kind (shown_as kind n)
 told_asked As.Whole n k = ap (λ (m : ℕ). Some (Whole m)) (sym k)
 told_asked As.Single n k = float_asked binary32 n k
 told_asked As.Double n k = float_asked binary64 n k
@@ -42,11 +52,11 @@ made_format : (f : Format) (x : Float) → T (fits f x) → OfFormat (Some (floa
 made_format binary32 x h = h
 made_format binary64 x h = h
 
-float_format : (f : Format) (n : ℕ) → OfFormat (Some (float_of f n))
+float_format : (f : Format) (n : ℕ) → OfFormat (float_of f n)
 unfolding float_of
-float_format f n = if_cases (λ s. OfFormat (Some s)) (nan_bits f n) (Whole n) (float_case f (of_bits f n)) (λ _. tt) (λ _. made_format f (of_bits f n) (of_bits-fits f n))
+float_format f n = if_cases OfFormat (nan_bits f n) (Some (Whole n)) (Some (float_case f (of_bits f n))) (λ _. tt) (λ _. made_format f (of_bits f n) (of_bits-fits f n))
 
-told_format : (kind : Kind) (n : ℕ) → OfFormat (Some (shown_as kind n))
+told_format : (kind : Kind) (n : ℕ) → OfFormat (shown_as kind n)
 told_format As.Whole n = tt
 told_format As.Single n = float_format binary32 n
 told_format As.Double n = float_format binary64 n
@@ -55,12 +65,12 @@ made_no_nan : (f : Format) (x : Float) → T (not (is_nan x)) → NoNan (Some (f
 made_no_nan binary32 x h = h
 made_no_nan binary64 x h = h
 
-float_no_nan : (f : Format) (n : ℕ) → NoNan (Some (float_of f n))
+float_no_nan : (f : Format) (n : ℕ) → NoNan (float_of f n)
 unfolding float_of
 float_no_nan f n =
-    if_cases (λ s. NoNan (Some s)) (nan_bits f n) (Whole n) (float_case f (of_bits f n)) (λ _. tt) (λ e. made_no_nan f (of_bits f n) (rw (← nan_bits_is f n, e) tt))
+    if_cases NoNan (nan_bits f n) (Some (Whole n)) (Some (float_case f (of_bits f n))) (λ _. tt) (λ e. made_no_nan f (of_bits f n) (rw (← nan_bits_is f n, e) tt))
 
-told_no_nan : (kind : Kind) (n : ℕ) → NoNan (Some (shown_as kind n))
+told_no_nan : (kind : Kind) (n : ℕ) → NoNan (shown_as kind n)
 told_no_nan As.Whole n = tt
 told_no_nan As.Single n = float_no_nan binary32 n
 told_no_nan As.Double n = float_no_nan binary64 n
@@ -71,7 +81,7 @@ module _ (vl : ℕ) (z : List ℕ) (register : ℕ) (kind : Kind) (width lane : 
   abbrev bits : ℕ
   bits = little (lane_byte vl z register width lane) 0 (width / 8)
 
-  shown_there : There vl z register kind width lane → shown_of vl z register kind width lane ≡ Some (shown_as kind bits)
+  shown_there : There vl z register kind width lane → shown_of vl z register kind width lane ≡ shown_as kind bits
   unfolding shown_of
   shown_there t = rw ((there_exactly vl z register kind width lane).1 t)
 
@@ -97,7 +107,7 @@ module _ (vl : ℕ) (z : List ℕ) (register : ℕ) (kind : Kind) (width lane : 
   module _ (r : Option Shown) (p : ShowPromise vl z register kind width lane r) where
     -- "no such lane", exactly when it says so
     pub none_exactly : (r ≡ None) ↔ (There vl z register kind width lane → ⊥)
-    none_exactly = (λ e t. let some = sym (p.shown ∙ shown_there t) ∙ e in cc, λ n. p.shown ∙ shown_none n)
+    none_exactly = (λ e t. some kind bits (sym (p.shown ∙ shown_there t) ∙ e), λ n. p.shown ∙ shown_none n)
 
     module _ (t : There vl z register kind width lane) where
       below : bits < 2 ^ width
@@ -124,14 +134,14 @@ module _ (vl : ℕ) (z : List ℕ) (register : ℕ) (kind : Kind) (width lane : 
     unfolding shown_of
     of_format =
         rw p.shown
-        (if_cases OfFormat (lane_there vl (length z) register kind width lane) (Some (shown_as kind bits)) None (λ _. told_format kind bits) (λ _. tt))
+        (if_cases OfFormat (lane_there vl (length z) register kind width lane) (shown_as kind bits) None (λ _. told_format kind bits) (λ _. tt))
 
     -- .. and no NaN, which comes as a whole number
     pub no_nan : NoNan r
     unfolding shown_of
     no_nan =
         rw p.shown
-        (if_cases NoNan (lane_there vl (length z) register kind width lane) (Some (shown_as kind bits)) None (λ _. told_no_nan kind bits) (λ _. tt))
+        (if_cases NoNan (lane_there vl (length z) register kind width lane) (shown_as kind bits) None (λ _. told_no_nan kind bits) (λ _. tt))
 
     pub window_answers : LaneAnswer vl z register kind width lane r
     window_answers = record { none = none_exactly.1; asked = as_asked; bytes = bytes_exactly; below = bits_below; format = of_format }

@@ -38,19 +38,20 @@ abbrev pub float_case : Format → Float → Shown
 float_case binary32 x = Single x
 float_case binary64 x = Double x
 
-unfoldable pub float_of : Format → ℕ → Shown
-float_of f bits = if nan_bits f bits then Whole bits else float_case f (of_bits f bits)
+-- .. an Option, as the window's answer is, so that `of_nan` (proofs/Patterns) says of a NaN's lane that there is one
+unfoldable pub float_of : Format → ℕ → Option Shown
+float_of f bits = if nan_bits f bits then Some (Whole bits) else Some (float_case f (of_bits f bits))
 
 -- "shown as a single, a double or a whole number, as asked"
-abbrev pub shown_as : Kind → ℕ → Shown
-shown_as As.Whole bits = Whole bits
+abbrev pub shown_as : Kind → ℕ → Option Shown
+shown_as As.Whole bits = Some (Whole bits)
 shown_as As.Single bits = float_of binary32 bits
 shown_as As.Double bits = float_of binary64 bits
 
 unfoldable pub shown_of : ℕ → List ℕ → ℕ → Kind → ℕ → ℕ → Option Shown
 shown_of vl z register kind width lane =
     if lane_there vl (length z) register kind width lane
-    then Some (shown_as kind (bytes_at z (lane_at vl register width lane) (width / 8)))
+    then shown_as kind (bytes_at z (lane_at vl register width lane) (width / 8))
     else None
 
 -- What `show` promises. Every file that can be lent is one of bytes, by its type; but in the logic it is a list of numbers, which does not say so,

@@ -1,7 +1,7 @@
 // The lane window: what a lane of the lent vector file holds, as the operator asks for it.
 #![tactic(auto)]
 
-ghost use Rattle.std.specs.Prelude.{◌≡◌, true, false, MatchOption, length};
+ghost use Rattle.std.specs.Prelude.{◌≡◌, true, false, MatchOption, Some, length};
 ghost use Rattle.lanes.specs.Lanes.{width_fits, lane_there, lane_at, shown_as, ShowPromise};
 ghost use Rattle.lanes.specs.Inside.{Fitting};
 
@@ -88,7 +88,7 @@ impl Asked {
     // The lane's bits, as asked.
     fn shown(self, bits: u64) -> Shown
         requires { Fitting self.kind self.width bits }
-        ensures { result ≡ shown_as self.kind bits }
+        ensures { Some result ≡ shown_as self.kind bits }
     {
         match self.kind {
             Kind::Single if bits % SIGN_32 <= INFINITY_32 => {
