@@ -72,10 +72,20 @@ fn row(decoded: Result<Insn, NotALoad>) -> Row {
     }
 }
 
-// Whether the text of a load is binutils' text.
-fn is_printed(insn: Insn, text: &[u8]) -> bool {
-    let mut ours = Text::of(b"");
-    write!(ours, "{}", Load(insn)).is_ok() && ours.same(text)
+// The text of a load. A write to a Text never fails.
+fn text_of(insn: Insn) -> Text {
+    let mut text = Text::of(b"");
+    let _ = write!(text, "{}", Load(insn));
+    text
+}
+
+// What a word is, as a text.
+fn as_text(decoded: Result<Insn, NotALoad>) -> Text {
+    match decoded {
+        Ok(insn) => text_of(insn),
+        Err(NotALoad::Outside) => Text::of(b"outside"),
+        Err(NotALoad::Undefined) => Text::of(b"undefined"),
+    }
 }
 
 // Whether what a word is agrees with binutils' text. The text of a load must also pass `listed`, so that the loads test the test
@@ -83,25 +93,18 @@ fn is_printed(insn: Insn, text: &[u8]) -> bool {
 fn agrees(decoded: Result<Insn, NotALoad>, text: &[u8]) -> bool {
     let listed = printed::listed(text);
     match decoded {
-        Ok(insn) => listed && is_printed(insn, text),
+        Ok(insn) => listed && text_of(insn).same(text),
         Err(_) => !listed,
     }
 }
 
 // Writes a disagreement: the line, which has the word and binutils' text, and what the word is to us.
-fn disagreement(
-    rt: &impl Print,
-    number: u64,
-    line: &[u8],
-    decoded: Result<Insn, NotALoad>,
-) -> io::Result<()> {
+fn disagreement(rt: &impl Print, number: u64, line: &[u8], ours: Text) -> io::Result<()> {
     print!(rt; "line {number}: ")?;
     rt.write_all(line)?;
-    match decoded {
-        Ok(insn) => println!(rt; " | ours: {}", Load(insn)),
-        Err(NotALoad::Outside) => println!(rt; " | ours: outside"),
-        Err(NotALoad::Undefined) => println!(rt; " | ours: undefined"),
-    }
+    print!(rt; " | ours: ")?;
+    rt.write_all(ours.bytes.get(..ours.n).unwrap_or(&ours.bytes))?;
+    println!(rt)
 }
 
 // Compares the word of a line with its text.
@@ -110,7 +113,7 @@ fn compare(rt: &impl Print, number: u64, line: &[u8], table: &mut Table) -> Resu
     let decoded = words::read(read.word);
     let same = agrees(decoded, read.text);
     if !same {
-        let _ = disagreement(rt, number, line, decoded);
+        let _ = disagreement(rt, number, line, as_text(decoded));
     }
     table.count(row(decoded), same);
     Ok(())
