@@ -1,14 +1,13 @@
 -- A case that bytes open with is within its limits, so that none is longer than the buffers of a program.
-use mathlib.Core.Path.{◌≡◌, refl, sym, ◌∙◌, ap, subst}
+use mathlib.Core.Path.{◌≡◌, refl, sym, subst}
 use mathlib.Core.Bool.{false, not}
-use mathlib.Core.List.{List, [], ◌∷◌}
-use Prim.Native.Nat.{ℕ, zero, suc, ◌+◌, ◌*◌, ◌≤◌, ◌<◌}
+use mathlib.Core.List.{List}
+use Prim.Native.Nat.{ℕ, ◌+◌, ◌*◌, ◌≤◌}
 use native.Mathlib.Omega.{arith}
-use borrow.Author.Tests.{ltb-false, lt-ltb, le-ltb, eqb-true, not-false}
+use borrow.Author.Tests.{ltb-false, le-ltb, eqb-true, not-false}
 use lib.Dec.{eqb, ltb, lit≤}
-use lib.ListN.{length, get_or}
+use lib.ListN.{length}
 use Rattle.std.specs.Prelude.{Result, Ok, Err}
-use Rattle.ground.specs.Choices.{Row, ◌⇒◌, first_of}
 use Rattle.ground.specs.Lists.{bytes_at}
 use Rattle.ground.proofs.Laws.{if_cases}
 use Rattle.cases.specs.Parts.{kind_in, carried, head_bytes, case_bytes}
@@ -16,64 +15,8 @@ use Rattle.cases.specs.Heads.{magic, flags_in, kind_of, strange_flag, strange_ki
 use Rattle.cases.specs.Inside.{Bounds}
 use Rattle.cases.specs.Outcomes.{outcome_length}
 use Rattle.cases.specs.declared.heads.Case.{Case}
-use Rattle.cases.specs.declared.heads.Part.{Part}
-use Rattle.cases.specs.declared.heads.Part.TheVariants.{Vectors, Predicates, Scalars, Flash, FlashRights, Ram, RamRights, Blob}
 use Rattle.cases.specs.declared.heads.Refusal.{Refusal}
-use Rattle.cases.specs.declared.heads.Refusal.TheVariants.{Long}
 use Rattle.cases.specs.declared.heads.Opened.{Opened}
-
--- part k of a table of lengths, limits and parts is within its limit
-abbrev pub Sized : Type 0
-Sized = ℕ × ℕ × Part
-
-abbrev pub ShortAt : List Sized → ℕ → Type 0
-ShortAt ps k = let p = get_or ps k (0, 0, Vectors) in p.0 ≤ p.1
-
--- .. as that of a case
-abbrev pub limits_of : Case → ℕ → List Sized
-limits_of c blob =
-    (c.vectors, 65536, Vectors)
-    ∷ (c.predicates, 4096, Predicates)
-    ∷ (c.scalars, 128, Scalars)
-    ∷ (c.flash, 131072, Flash)
-    ∷ (c.flash_rights, 64, FlashRights)
-    ∷ (c.ram, 131072, Ram)
-    ∷ (c.ram_rights, 64, RamRights)
-    ∷ (blob, 65536, Blob)
-    ∷ []
-
--- a table's first part over its limit is told
-abbrev pub over : List Sized → List (Row (Result Opened Refusal))
-over [] = []
-over (p ∷ ps) = (ltb p.1 p.0 ⇒ Err (Long p.2)) ∷ over ps
-
-pub first_over : (ps : List Sized) (k : ℕ) (d : Result Opened Refusal) → k < length ps → ((j : ℕ) → j < k → ShortAt ps j)
-    → (let p = get_or ps k (0, 0, Vectors) in p.1 < p.0) → Err (Long (get_or ps k (0, 0, Vectors)).2) ≡ first_of (over ps) d
-first_over [] k d l short long = absurd (omega arith)
-first_over (p ∷ ps) zero d l short long = rw (lt-ltb _ _ long)
-first_over (p ∷ ps) (suc k) d l short long =
-    rw (le-ltb _ _ (short 0 (omega arith))) (first_over ps k d (omega arith) (λ j m. short (suc j) (omega arith)) long)
-
-module _ (c : Case) (blob k : ℕ) (e : blob ≡ (carried c.question).blob) where
-  pub first_told : k < 8 → ((j : ℕ) → j < k → ShortAt (limits_of c blob) j)
-      → (let p = get_or (limits_of c blob) k (0, 0, Vectors) in p.1 < p.0) → Err (Long (get_or (limits_of c blob) k (0, 0, Vectors)).2) ≡ limited c
-  unfolding limited
-  first_told l short long =
-      let d : Result Opened Refusal = Ok (record { case = c; whole = case_bytes c }) in
-      first_over (limits_of c blob) k d l short long ∙ ap (λ (n : ℕ). first_of (over (limits_of c n)) d) e
-
-  pub short_past : 8 ≤ k → ((j : ℕ) → j < k → ShortAt (limits_of c blob) j) → Bounds c
-  short_past most short =
-      record {
-        vectors = short 0 (omega arith);
-        predicates = short 1 (omega arith);
-        scalars = short 2 (omega arith);
-        flash = short 3 (omega arith);
-        flash_rights = short 4 (omega arith);
-        ram = short 5 (omega arith);
-        ram_rights = short 6 (omega arith);
-        blob = rw (← e) (short 7 (omega arith));
-      }
 
 -- such a case is taken
 pub all_short : {c : Case} → Bounds c → Ok (record { case = c; whole = case_bytes c }) ≡ limited c

@@ -1,8 +1,9 @@
 // The head of a case, in the byte format of docs/CASES.md: what it says, and what is wrong with it.
-ghost use Rattle.std.specs.Prelude.{◌≡◌, ◌≤◌};
+ghost use Rattle.std.specs.Prelude.{if◌then◌else◌, ◌≡◌, ◌<◌, ◌≤◌, Ok, Err, IfOk, IfErr};
 ghost use Rattle.cases.specs.Parts.{kind_in, carried, head_bytes, case_bytes};
-ghost use Rattle.cases.specs.Heads.{strange_flag, numbers_of, question_of, head_of, limited, marked_of, HeadPromise};
+ghost use Rattle.cases.specs.Heads.{strange_flag, strange_kind, numbers_of, question_of, head_of, limited, marked_of, HeadPromise};
 ghost use Rattle.cases.specs.Inside.{Bounds, question_here};
+ghost use Rattle.cases.specs.declared.heads.Refusal.TheVariants.{Kind, Long};
 
 use crate::LONGEST_CASE;
 use ground::number;
@@ -97,6 +98,7 @@ impl Question {
     }
 
     // .. and the blob behind its parts.
+    #[inline(always)]
     fn blob(self) -> usize
         ensures { result ≡ (carried self).blob }
     {
@@ -109,6 +111,7 @@ impl Question {
 
 impl Case {
     // How many bytes the case has: its head and every part.
+    #[inline(always)]
     fn whole(self) -> usize
         requires { Bounds self }
         ensures exactly { result ≡ case_bytes self }
@@ -129,6 +132,7 @@ fn strange_flag(flags: u64) -> bool
 }
 
 // The numbers behind the lengths.
+#[inline(always)]
 #[tactic(auto, unfolding(crate::specs::Heads::numbers_of))]
 fn read_numbers(s: &[u8]) -> Numbers
     ensures { result ≡ numbers_of s.now }
@@ -143,6 +147,7 @@ fn read_numbers(s: &[u8]) -> Numbers
 }
 
 // What is asked, if its kind means something here. A step has no numbers: what lies behind its lengths are its parts.
+#[inline(always)]
 #[tactic(auto, unfolding(crate::specs::Heads::strange_kind, crate::specs::Heads::question_of))]
 fn read_question(s: &[u8]) -> Result<Question, Refusal>
     ensures { result ≡ question_here s.now }
@@ -156,6 +161,7 @@ fn read_question(s: &[u8]) -> Result<Question, Refusal>
 }
 
 // What a head says, field by field.
+#[inline(always)]
 #[tactic(auto, using(crate::proofs::Flags::flags_masked), unfolding(crate::specs::Heads::head_of))]
 fn read_head(s: &[u8], question: Question) -> Case
     requires { question ≡ question_of s.now }
@@ -185,47 +191,70 @@ fn read_head(s: &[u8], question: Question) -> Case
     }
 }
 
+// Refuses a part that is over its limit.
+#[inline(always)]
+fn short(length: usize, limit: usize, part: Part) -> Result<(), Refusal>
+    ensures over { IfErr result (λ why. (why ≡ Long part) × (limit < length)) }
+    ensures within { IfOk result (λ _. length ≤ limit) }
+{
+    if limit < length {
+        return Err(Refusal::Long(part));
+    }
+    Ok(())
+}
+
 // The case, if no part of it is too long.
-#[tactic(auto, using(crate::proofs::Limits::short_past, crate::proofs::Limits::all_short))]
+#[inline(always)]
+#[tactic(auto, using(crate::proofs::Limits::all_short), unfolding(crate::specs::Heads::limited))]
 fn within_limits(case: Case) -> Result<Opened, Refusal>
     ensures { result ≡ limited case }
 {
-    let parts = [
-        (case.vectors, 65536, Part::Vectors),
-        (case.predicates, 4096, Part::Predicates),
-        (case.scalars, 128, Part::Scalars),
-        (case.flash, 131072, Part::Flash),
-        (case.flash_rights, 64, Part::FlashRights),
-        (case.ram, 131072, Part::Ram),
-        (case.ram_rights, 64, Part::RamRights),
-        (case.question.blob(), 65536, Part::Blob),
-    ];
-    for (length, limit, part) in parts {
-        if limit < length {
-            return Err(Refusal::Long(part));
-        }
-    }
+    short(case.vectors, 65536, Part::Vectors)?;
+    short(case.predicates, 4096, Part::Predicates)?;
+    short(case.scalars, 128, Part::Scalars)?;
+    short(case.flash, 131072, Part::Flash)?;
+    short(case.flash_rights, 64, Part::FlashRights)?;
+    short(case.ram, 131072, Part::Ram)?;
+    short(case.ram_rights, 64, Part::RamRights)?;
+    short(case.question.blob(), 65536, Part::Blob)?;
     Ok(Opened {
         case,
         whole: case.whole(),
     })
 }
 
-// What 96 bytes or more open with that begin with the magic.
+// How many bytes the head of a case of this kind has, if the kind means something here.
+#[inline(always)]
+#[tactic(auto, unfolding(crate::specs::Heads::strange_kind, crate::specs::Parts::head_bytes))]
+fn head_of_kind(kind: u64) -> Result<usize, Refusal>
+    ensures { result ≡ (if strange_kind kind then Err Kind else Ok (head_bytes kind)) }
+{
+    match kind {
+        0 => Ok(HEAD),
+        2 | 3 => Ok(LONGER_HEAD),
+        _ => Err(Refusal::Kind),
+    }
+}
+
+// What 96 bytes or more open with that begin with the magic. The numbers of a longer head are read once it is there, which the compiler then knows, as
+// all that is called here is inlined: else a case goes from place to place, and a head takes half as long again.
+#[inline(always)]
 #[tactic(auto, using(crate::proofs::Opens::read_asked), unfolding(crate::specs::Heads::marked_of))]
 fn marked(s: &[u8]) -> Result<Opened, Refusal>
     ensures { result ≡ marked_of s.now }
 {
-    if strange_flag(number(s, 8, 4)) {
+    let flags = number(s, 8, 4);
+    if strange_flag(flags) {
         return Err(Refusal::Flags);
     }
-    let question = read_question(s)?;
+    let head_bytes = head_of_kind(flags / 256 % 256)?;
     if 4 < number(s, 12, 4) {
         return Err(Refusal::Level);
     }
-    if s.len() < question.head_bytes() {
+    if s.len() < head_bytes {
         return Err(Refusal::Ends);
     }
+    let question = read_question(s)?;
     within_limits(read_head(s, question))
 }
 
